@@ -26,7 +26,7 @@ scenario_of s = record {
   sources = map source_of s.sources;
 }
 
--- an image ends within so many bytes
+-- an image ends within `size` bytes
 abbrev pub EndsWithin : ℕ → ImageText → Type 0
 EndsWithin size image = image.address + length image.bytes ≤ size
 

@@ -31,8 +31,7 @@ pub fn images_lie_in_memory()
     loads_give_what_was_stored();
 }
 
-/// After boot each byte of RAM is that of the block of words, or of the segment of an executable, that has it there by the scenario's
-/// text, and 0 where none has.
+/// After boot each byte of RAM is that of the block of words, or of the executable's segment, that has it there by the scenario's text, and else 0.
 pub fn texts_lie_in_memory()
     ensures { (bytes : List ℕ) (s : Scenario) → scenario bytes ≡ Ok s
         → HoldsText bytes s.images (boot (scenario_of s)).memory }

@@ -9,7 +9,7 @@ use nova_kernel::{Kernel, Root};
 use nova_scenario::{Image, Scenario, SourceRow};
 use std::alloc::{AllocError, Global};
 
-/// The root of a scenario.
+/// The root of `scenario`.
 fn root_of(scenario: &Scenario) -> Root
     ensures { result ≡ (scenario_of scenario.now).root }
 {
@@ -21,7 +21,7 @@ fn root_of(scenario: &Scenario) -> Root
     }
 }
 
-/// Lays images into the RAM of a kernel that has taken no turn.
+/// Lays `images` into the RAM of `kernel`, which has taken no turn.
 fn lay(kernel: &mut Kernel, images: &[Image])
     requires turns { kernel.old.state.turns ≡ 0 }
     requires images { LieInRam (4096 * length kernel.old.state.memory.ram) images.now }
@@ -35,7 +35,7 @@ fn lay(kernel: &mut Kernel, images: &[Image])
     }
 }
 
-/// Makes sources in a kernel that has taken no turn.
+/// Makes `sources` in `kernel`, which has taken no turn.
 fn make(kernel: &mut Kernel, sources: &[SourceRow]) -> Result<(), AllocError>
     requires turns { kernel.old.state.turns ≡ 0 }
     requires sources { AllByRecursion (IsSourceOf kernel.old.state.cpus) sources.now }
@@ -51,8 +51,8 @@ fn make(kernel: &mut Kernel, sources: &[SourceRow]) -> Result<(), AllocError>
 /// Lets go of a value.
 fn let_go<T: Drop>(_value: T) {}
 
-/// The kernel that a scenario begins with: the machine boots with its root domain, and then the
-/// images are laid into RAM and the sources are made. The console log has room for `log_room` bytes.
+/// Boots the kernel of `scenario`: the machine boots with its root domain, and then the images are laid into
+/// RAM and the sources are made. The console log has room for `log_room` bytes.
 ///
 /// The order of RAM is at most 14, the consoles are at most 16, the images lie in RAM, and there are at most 32 sources, with
 /// numbers in their ranges.

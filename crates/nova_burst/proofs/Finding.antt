@@ -1,4 +1,4 @@
--- Whom a processor's next turn lets step.
+-- The virtual CPU that would step next on a processor.
 use Rattle.std.proofs.Common.{◌≡◌, ◌<◌, ℕ, List, ap, ap₂, sym, ◌∙◌, subst, refl, arith}
 use Rattle.std.specs.Prelude.{Bool, true, false, not, ◌&&◌, nat_le, nat_lt, ◌-◌, ◌==◌, min, option_and_then, Option, Some, None, IsSome, option_map, slice_get, slice_index, length, if◌then◌else◌}
 use Rattle.std.proofs.lemmas.Option.{same_Some}
@@ -24,7 +24,7 @@ use Rattle.nova_burst.specs.Lending.{domain_of_virtual, has_code, is_leasable, i
 use Rattle.nova_kernel.specs.Views.{left_of}
 use Rattle.nova_burst.specs.declared.leasing.Leasable.{Leasable}
 
--- who acts, and from what it is paid
+-- the virtual CPU that acts, and from what it is paid
 pub record IsNext (k : KernelState) (cpu g sc : ℕ) : Type 0 where
   pub chosen : Candidate
   pub budget : Budget
@@ -74,7 +74,7 @@ is_before_due k cpu budget left h = by_entry (next_entry k.times cpu) refl h
           left = both.1 ∙ sym (ap (λ (o : Option Entry). lesser budget (option_map (λ (m : ℕ). m - clock k.times cpu) (option_map (λ (e : Entry). e.moment) o))) is);
         }
 
--- something is due, so that nobody acts
+-- something is due, so that none acts
 pub none_acts : (k : KernelState) (cpu budget : ℕ) → turns_before budget (until_due k.times cpu) ≡ None → next_to_act k cpu ≡ None
 unfolding next_to_act
 none_acts k cpu budget h = by_entry (next_entry k.times cpu) refl h
@@ -95,7 +95,7 @@ none_acts k cpu budget h = by_entry (next_entry k.times cpu) refl h
         ap (option_and_then (if_due (clock k.times cpu))) is ∙ turns_by (clock k.times cpu) e (e.moment - clock k.times cpu == 0) refl g in
         ap (λ (d : Option Due). unless_due d (choice k cpu)) due
 
--- the one who is chosen acts, where nothing is due
+-- the chosen context acts, where nothing is due
 pub chosen_acts : (k : KernelState) (cpu : ℕ) → due_on k.times cpu ≡ None → next_to_act k cpu ≡ choice k cpu
 unfolding next_to_act
 chosen_acts k cpu calm = ap (λ (d : Option Due). unless_due d (choice k cpu)) calm
@@ -154,7 +154,7 @@ virtual_is k g pd h = by_object (slice_get k.objects g) h
     by_object (Some Sm) g = absurd (cc)
     by_object None g = absurd (cc)
 
--- one that is ready, without recall flag
+-- a context that is ready, without recall flag
 pub record IsStepping (x : EcState) (regs : Registers) : Type 0 where
   pub ready : x.state ≡ Ready
   pub free : x.recall ≡ false

@@ -35,7 +35,7 @@ set_or (y ∷ xs) (suc n) v (suc i) x h = elim (set_or xs n v i x h) [
   | inr other ↦ inr other
 ]
 
--- one is put at its place
+-- a reading is put at its place
 pub learned : (s : CopiesState) (slots : List Slot) (n : ℕ) (v : Slot) → AreRead s slots → (v.address / 4 % 256 ≡ n → IsRead s v) → AreRead s (slice_set slots n v)
 learned s slots n v are read = record {
   whole = are.whole;
@@ -45,7 +45,7 @@ learned s slots n v are read = record {
   ];
 }
 
--- one is forgotten
+-- a reading is forgotten
 pub forgotten : (slots : List Slot) (n frame : ℕ) (v : Slot) → v.address / 4 % 256 ≢ n → AreLeft slots (slice_set slots n v) frame n
 forgotten slots n frame v gone i x at place = elim (set_or slots n v i x at) [
   | inl here ↦ absurd (gone (ap (λ (y : Slot). y.address / 4 % 256) here.1 ∙ (place ∙ here.0)))

@@ -19,7 +19,7 @@ use Rattle.nova_deeds.specs.StirCounts.{count_in}
 use Rattle.nova_burst.specs.Lending.{ComesAfter, LeaseView, answer_by, answer_to, turns_of}
 use Rattle.nova_burst.specs.Taken.{MayTakeOver}
 
--- WHOM A LEASE IS OF
+-- WHICH VIRTUAL CPU A LEASE IS OF
 
 run_virtual : (turns : List ℕ) (k : KernelState) (g : ℕ) → IsVirtual k g → IsVirtual (run k turns) g
 run_virtual [] k g is = is

@@ -1,4 +1,4 @@
--- Whom the next turn of a processor lets step, if it may be leased.
+-- The virtual CPU that would step next on a processor, if it may be leased.
 use Rattle.std.specs.Prelude.{◌≡◌, ◌<◌, ℕ}
 use Rattle.nova_model.specs.Choice.{Candidate}
 use Rattle.nova_model.specs.State.{KernelState, context, pd_of}
@@ -8,7 +8,7 @@ use Rattle.law_leases.specs.Advances.{IsLeasable}
 use Rattle.law_leases.specs.Commits.{IsReached, lesser, stirs_now}
 use Rattle.nova_burst.specs.declared.leasing.Leasable.{Leasable}
 
--- whom a processor's next turn lets step
+-- the virtual CPU that would step next on a processor
 pub record IsFound (k : KernelState) (cpu : ℕ) (r : Leasable) : Type 0 where
   pub state : IsReached k
   pub processor : cpu < k.cpus

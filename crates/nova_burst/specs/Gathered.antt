@@ -16,7 +16,7 @@ pub record IsLedTo (k : KernelState) (pd frame : ℕ) : Type 0 where
   pub leads : reach k.delegations.list pd page ≡ Some place
   pub is : place.frame ≡ frame
 
--- pages are known as the protection domain has them; copies were just made, at most so many, of frames to which its memory leads
+-- pages are known as the protection domain has them; copies were just made, at most `most`, of frames to which its memory leads
 pub record AreGathered (k : KernelState) (pd most : ℕ) (s : CopiesState) : Type 0 where
   pub places : (page : ℕ) (p : Place) → known_in s.known page ≡ Some p → reach k.delegations.list pd page ≡ Some p
   pub fresh : AreFresh k.memory.ram s.pages

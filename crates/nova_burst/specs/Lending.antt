@@ -29,7 +29,7 @@ pub use Rattle.nova_turn.specs.Homes.{home_of as domain_of_virtual}
 use Rattle.nova_burst.specs.Copies.{known_in}
 use Rattle.nova_burst.specs.declared.copies.Known.{Known}
 
--- for whom and from what it was made and what was run since, and the pages that it knows
+-- for which virtual CPU and from what it was made and what was run since, and the pages that it knows
 pub record LeaseView : Type 0 where
   pub run : LeaseRun
   pub known : List Known
@@ -40,7 +40,7 @@ abbrev pub is_ready : State → Bool
 is_ready Ready = true
 is_ready other = false
 
--- the registers of one that is ready, without recall flag
+-- the registers of a context that is ready, without recall flag
 abbrev pub regs_to_step : EcState → Option Registers
 regs_to_step x = if is_ready x.state && not x.recall then Some x.regs else None
 
@@ -52,7 +52,7 @@ abbrev pub has_code : KernelState → Option ℕ → Option Registers → Bool
 has_code k (Some pd) (Some regs) = is_at_code k pd regs.pc
 has_code k pd regs = false
 
--- the one who acts is a virtual CPU that is about to take an instruction
+-- the context that acts is a virtual CPU that is about to take an instruction
 abbrev pub is_to_step : KernelState → Option Candidate → Bool
 is_to_step k (Some c) = has_code k (domain_of_virtual (slice_get k.objects c.actor)) (regs_to_step (context k c.actor))
 is_to_step k None = false
@@ -98,7 +98,7 @@ abbrev pub IsCodeCopied : KernelState → ℕ → ℕ → List Page → List Kno
 IsCodeCopied k pd pc pages known = (frame : ℕ) → frame_from (reach k.delegations.list pd) execute_right pc ≡ Some frame → frame < length k.memory.ram →
     IsSome (copy_at pages frame) × (frame_from (known_in known) execute_right pc ≡ Some frame)
 
--- nothing was run yet; and at most so many frames are copied, that of pc among them
+-- nothing was run yet; and at most `pages` frames are copied, that of pc among them
 pub record IsNew (l : LeaseView) (k : KernelState) (cpu pages : ℕ) : Type 0 where
   pub its_cpu : l.run.cpu ≡ cpu
   pub count : l.run.steps.count ≡ 0
@@ -130,7 +130,7 @@ MustStop l k = StopsIn l (put_back (view k l.run.guest) (lease_state_of l.run.st
 
 -- A COMMIT
 
--- the answer by both stir counts of now, and by who acts
+-- the answer by both stir counts of now, and by the context that acts
 abbrev pub answer_by : LeaseRun → ℕ → Option ℕ → CommitDone
 answer_by l left None = Away 0
 answer_by l left (Some actor) = if actor == l.guest then by_room l.steps.count left (nat_le l.steps.count left) else Away actor
@@ -143,7 +143,7 @@ abbrev pub turns_of : CommitDone → ℕ
 turns_of (Committed n) = n
 turns_of other = 0
 
--- so many turns of the processor led from one state to another, each a plain step that the chosen scheduling context pays
+-- `n` turns of the processor led from `old` to `new`, each a plain step that the chosen scheduling context pays
 pub record AreItsTurns (old new : KernelState) (cpu n : ℕ) : Type 0 where
   pub state : new ≡ run old (replicate n cpu)
   pub events : (c : Candidate) → choice old cpu ≡ Some c → trace old (replicate n cpu) ≡ replicate n (step_of cpu c)

@@ -5,7 +5,7 @@ use Rattle.law_leases.specs.Commits.{LeaseRun, MayAdvance}
 use Rattle.law_leases.specs.declared.commit.CommitDone.{CommitDone}
 use Rattle.law_leases.specs.declared.commit.CommitDone.TheVariants.{Committed}
 
--- the lease's steps may be laid over it, as so many turns
+-- the lease's steps may be laid over it, as `n` turns
 pub record IsToBeTaken (k : KernelState) (l : LeaseRun) (n : ℕ) : Type 0 where
   pub may : MayAdvance k l.cpu l.steps
   pub count : l.steps.count ≡ n

@@ -8,8 +8,8 @@ use crate::lent::Lease;
 use law_leases::CommitDone;
 use nova_kernel::Kernel;
 
-/// The answer by both stir counts of now, and by who acts: that of the first test that fails. Where nothing came between, the processor
-/// isn't idle, so that None is never met.
+/// The answer to `lease` by both stir counts `now`, and by `actor`, which acts: that of the first test that fails. Where nothing came between, the
+/// processor isn't idle, so that None is never met.
 fn answer(lease: &Lease, now: (u64, u64), actor: Option<u32>, left: u64) -> CommitDone
     ensures { result ≡ answer_to lease.now.run left now actor }
 {
@@ -30,7 +30,7 @@ fn answer(lease: &Lease, now: (u64, u64), actor: Option<u32>, left: u64) -> Comm
     CommitDone::Committed(count)
 }
 
-/// What becomes of a lease that is to be committed.
+/// What becomes of `lease`, which is to be committed.
 fn decide(kernel: &Kernel, lease: &Lease, left: u64) -> CommitDone
     requires { ComesAfter lease.now kernel.now.state }
     ensures { result ≡ commit_done kernel.now.state lease.now.run left }
@@ -42,7 +42,7 @@ fn decide(kernel: &Kernel, lease: &Lease, left: u64) -> CommitDone
     answer(lease, now, acting, left)
 }
 
-/// Takes the steps of a lease over into the kernel, where they are to be committed.
+/// Takes the steps of `lease` over into `kernel`, where they are to be committed.
 fn take_over(kernel: &mut Kernel, lease: &Lease, done: CommitDone)
     requires { MayTakeOver kernel.old.state lease.now.run done }
     ensures state { kernel.new.state ≡ run kernel.old.state (replicate (turns_of done) lease.now.run.cpu) }
@@ -54,13 +54,13 @@ fn take_over(kernel: &mut Kernel, lease: &Lease, done: CommitDone)
     }
 }
 
-/// Commits what a lease ran, where nothing came between: its instructions are then as many turns of its
+/// Commits what `lease` ran, where nothing came between. Its instructions are then as many turns of its
 /// processor, each a plain step of the leased virtual CPU, charged to the scheduling context that
 /// `Kernel::choose` gives. `left` is how many turns there is room for, with those so far at most 2^31. The
-/// answer is the first that holds: Dropped where a stir count of the virtual CPU or of its processor isn't
-/// the one that the lease keeps, Away where another would act on the processor, NoRoom where more than
-/// `left` instructions ran, and else Committed with their number. But for Committed the kernel stays as it
-/// was. It takes no memory.
+/// answer is the first that holds: Dropped where a stir count of the virtual CPU or of its processor isn't that
+/// which the lease keeps, Away where another would act on the processor, NoRoom where more than `left`
+/// instructions ran, and else Committed with their number. But for Committed the kernel stays as it was. It
+/// takes no memory.
 pub fn commit(kernel: &mut Kernel, lease: Lease, left: u64) -> CommitDone
     requires after { ComesAfter lease kernel.old.state }
     requires turns { kernel.old.state.turns + left ≤ 2 ^ 31 }

@@ -59,7 +59,7 @@ impl Model for Copies {
     ghost invariant = { λ c. AreSound (known_in c.known.items) c.pages.items c.fetched.page c.fetched.copy c.loaded.page c.loaded.copy c.stored.page c.stored.copy };
 }
 
-/// Stores the lowest bytes of a value to a copy, and counts it.
+/// Stores the lowest `width` bytes of `value` to the copy `page`, and counts it.
 fn store_in(page: &mut Page, offset: u32, width: u32, value: u32)
     requires whole { length page.old.bytes ≡ 4096 }
     requires place { IsStore offset width }
@@ -71,7 +71,7 @@ fn store_in(page: &mut Page, offset: u32, width: u32, value: u32)
 }
 
 impl Copies {
-    /// Copies of frames, each once and of 4,096 bytes, with the pages that are known to lead there.
+    /// The copies `pages` of frames, each once and of 4,096 bytes, with the pages `known` to lead there.
     pub fn new(known: Vec<Known>, pages: Vec<Page>) -> Copies
         requires whole { All (λ p. length p.bytes ≡ 4096) pages.items }
         requires once { AreOnce pages.items }
@@ -103,7 +103,7 @@ impl Copies {
         self.pages.len()
     }
 
-    /// Another page is known, after the others.
+    /// Adds `known`, a page that is known, after the others.
     pub fn know(&mut self, known: Known) -> Result<(), AllocError>
         ensures { OnOk result (self.new ≡ record self.old { known = self.old.known ++ known ∷ [] }) }
     {
@@ -111,7 +111,7 @@ impl Copies {
         Ok(())
     }
 
-    /// Another copy, after the others, of a frame that isn't copied yet.
+    /// Adds `page`, a copy of a frame that isn't copied yet, after the others.
     pub fn add(&mut self, page: Page) -> Result<(), AllocError>
         requires whole { length page.bytes ≡ 4096 }
         requires new { copy_at self.old.pages page.frame ≡ None }
@@ -121,14 +121,14 @@ impl Copies {
         Ok(())
     }
 
-    /// Whether a page is known.
+    /// Whether `page` is known.
     pub fn knows(&self, page: u32) -> bool
         ensures { result ≡ is_some (known_in self.now.known page) }
     {
         self.place(page).is_some()
     }
 
-    /// What a page is known to lead to.
+    /// What `page` is known to lead to.
     fn place(&self, page: u32) -> Option<Known>
         ensures { result ≡ find (λ k. k.page == page) self.now.known }
     {
@@ -140,7 +140,7 @@ impl Copies {
         None
     }
 
-    /// The frame that an address is known to lead to, where the right is there.
+    /// The frame that `address` is known to lead to, where the right is there.
     fn frame_for(&self, right: Rights, address: u32) -> Option<u32>
         ensures { result ≡ frame_from (known_in self.now.known) right.0 address }
     {
@@ -152,7 +152,7 @@ impl Copies {
         }
     }
 
-    /// Whether a frame is copied.
+    /// Whether `frame` is copied.
     pub fn has(&self, frame: u32) -> bool
         ensures { result ≡ is_some (copy_at self.now.pages frame) }
     {
@@ -164,7 +164,7 @@ impl Copies {
         false
     }
 
-    /// The place of the copy of a frame.
+    /// The place of the copy of `frame`.
     fn copy_of(&self, frame: u32) -> Option<usize>
         ensures some { IfSome result (λ i. IsCopyOf self.now.pages frame i) }
         ensures none { result ≡ None → copy_at self.now.pages frame ≡ None }
@@ -177,7 +177,7 @@ impl Copies {
         None
     }
 
-    /// The place of the copy to which an address is known to lead, where the right is there.
+    /// The place of the copy to which `address` is known to lead, where the right is there.
     #[inline(never)]
     fn find(&self, right: Rights, address: u32) -> Option<usize>
         ensures some { IfSome result (λ i. IsCopyFor (known_in self.now.known) self.now.pages right.0 (address / 4096) i) }
@@ -187,7 +187,7 @@ impl Copies {
         self.copy_of(frame)
     }
 
-    /// The place of the copy from which an address is fetched.
+    /// The place of the copy from which `address` is fetched.
     fn copy_to_fetch(&mut self, address: u32) -> Option<usize>
         ensures same { self.new ≡ self.old }
         ensures once { AreOnce self.old.pages }
@@ -203,7 +203,7 @@ impl Copies {
         Some(copy)
     }
 
-    /// The place of the copy from which an address is loaded.
+    /// The place of the copy from which `address` is loaded.
     fn copy_to_load(&mut self, address: u32) -> Option<usize>
         ensures same { self.new ≡ self.old }
         ensures once { AreOnce self.old.pages }
@@ -219,7 +219,7 @@ impl Copies {
         Some(copy)
     }
 
-    /// The place of the copy to which an address is stored.
+    /// The place of the copy to which `address` is stored.
     fn copy_to_store(&mut self, address: u32) -> Option<usize>
         ensures same { self.new ≡ self.old }
         ensures once { AreOnce self.old.pages }
@@ -235,7 +235,7 @@ impl Copies {
         Some(copy)
     }
 
-    /// The number in the 1, 2 or 4 bytes of a copy from an offset on.
+    /// The number in the 1, 2 or 4 bytes of a copy from `offset` on.
     fn load_from(&self, copy: usize, offset: u32, width: u32) -> u32
         requires there { copy < length self.now.pages }
         requires place { IsStore offset width }
@@ -245,7 +245,7 @@ impl Copies {
         self.pages[copy].bytes.load(offset, width)
     }
 
-    /// Stores the lowest bytes of a value to a copy.
+    /// Stores the lowest bytes of `value` to a copy.
     fn store_to(&mut self, copy: usize, offset: u32, width: u32, value: u32)
         requires there { copy < length self.old.pages }
         requires place { IsStore offset width }
@@ -255,7 +255,7 @@ impl Copies {
         store_in(&mut self.pages[copy], offset, width, value);
     }
 
-    /// The word at an address that is a multiple of 4, where it may be executed and its frame is copied, and the frame.
+    /// The word at `address`, a multiple of 4, where it may be executed and its frame is copied, and the frame.
     pub(crate) fn word_at(&mut self, address: u32) -> Option<(u32, u32)>
         requires { address % 4 ≡ 0 }
         ensures same { self.new ≡ self.old }
@@ -267,7 +267,7 @@ impl Copies {
         Some((frame, word))
     }
 
-    /// The frame of the copy at a place.
+    /// The frame of the copy at the place `copy`.
     #[inline(always)]
     fn frame_of(&self, copy: usize) -> u32
         ensures { IfSome (slice_get self.now.pages copy) (λ p. result ≡ p.frame) }

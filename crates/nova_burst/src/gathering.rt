@@ -13,7 +13,7 @@ use std::alloc::{AllocError, Global};
 /// How many pages after that of pc are looked at.
 const FOLLOWING: u32 = 4;
 
-/// Copies a RAM frame that isn't copied yet.
+/// Copies the RAM frame `frame`, which isn't copied yet.
 fn copy_frame(
     copies: &mut Copies,
     kernel: &Kernel,
@@ -35,15 +35,14 @@ fn copy_frame(
     Ok(())
 }
 
-/// Whether so many frames are copied.
+/// Whether `most` frames are copied.
 fn is_full(copies: &Copies, most: usize) -> bool
     ensures { result ≡ nat_le most (length copies.now.pages) }
 {
     copies.count() >= most
 }
 
-/// Knows a page that leads to RAM, with a copy of its frame. Where that isn't copied and so many are, nothing
-/// is done.
+/// Adds `known`, a page that leads to RAM, with a copy of its frame. Where that isn't copied and `most` frames are, nothing is done.
 fn enter(
     copies: &mut Copies,
     kernel: &Kernel,
@@ -69,14 +68,14 @@ fn enter(
     Ok(())
 }
 
-/// Whether a frame is a console.
+/// Whether `frame` is a console.
 fn is_console(kernel: &Kernel, frame: u32) -> bool
     ensures { result ≡ nat_le (length kernel.now.state.memory.ram) frame }
 {
     frame >= kernel.ram()
 }
 
-/// What a page of a protection domain leads to; none where it leads nowhere or to a console.
+/// What `page` of the protection domain `pd` leads to; none where it leads nowhere or to a console.
 fn ram_page(kernel: &mut Kernel, pd: u32, page: u32) -> Option<Known>
     ensures some { IfSome result (λ x. IsRamPage kernel.old.state pd page x) }
     ensures none { result ≡ None → IsNoRamPage kernel.old.state pd page }
@@ -93,7 +92,7 @@ fn ram_page(kernel: &mut Kernel, pd: u32, page: u32) -> Option<Known>
     })
 }
 
-/// Looks at a page, and knows it where it leads to RAM. A console is never copied.
+/// Looks at `page`, and knows it where it leads to RAM. A console is never copied.
 fn look_at(
     copies: &mut Copies,
     kernel: &mut Kernel,
@@ -151,7 +150,7 @@ fn look_after(
     Ok(())
 }
 
-/// Pages of a protection domain, with copies of at most so many RAM frames: that of pc, those to which
+/// Pages of the protection domain `pd`, with copies of at most `most` RAM frames: that of pc, those to which
 /// registers point, and those that follow that of pc. The kernel stays as it was.
 pub fn gather(
     kernel: &mut Kernel,

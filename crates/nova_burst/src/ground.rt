@@ -11,7 +11,8 @@ use std::marker::Model;
 /// How many instructions are remembered.
 const PLACES: usize = 256;
 
-/// What the word at an address reads as, and the frame in which it lies. It stands at the place of the address; one that stands elsewhere says nothing.
+/// What the word at an address reads as, and the frame in which it lies. It stands at the place of the address; a reading that stands elsewhere says
+/// nothing.
 #[derive(Clone, Copy)]
 pub(crate) struct Slot {
     pub address: u32,
@@ -37,7 +38,7 @@ impl Model for Ground {
     ghost invariant = { λ g. AreRead g.copies g.slots };
 }
 
-/// The place of an address. Those of one word of a page have the same one, whatever page it is.
+/// The place of `address` in the table. All addresses of one word of a page have the same place, whatever page it is.
 #[inline(always)]
 fn place_of(address: u32) -> usize
     ensures place { result ≡ address / 4 % 256 }
@@ -46,7 +47,7 @@ fn place_of(address: u32) -> usize
     (address / 4 % 256) as usize
 }
 
-/// An address of another place.
+/// An address of another place than `address`.
 #[inline(always)]
 fn elsewhere(address: u32) -> u32
     ensures { result / 4 % 256 ≢ address / 4 % 256 }
@@ -58,7 +59,7 @@ fn elsewhere(address: u32) -> u32
     }
 }
 
-/// Nothing is remembered of the word at an address any more, where it lies in this frame.
+/// Forgets what the word at `address` reads as, where it lies in `frame`.
 #[inline(always)]
 fn forget(slots: &mut [Slot; PLACES], frame: u32, address: u32)
     ensures { AreLeft slots.old slots.new frame (address / 4 % 256) }
@@ -69,7 +70,7 @@ fn forget(slots: &mut [Slot; PLACES], frame: u32, address: u32)
     }
 }
 
-/// Reads the word at an address anew, where it lies in a copy and is an instruction, and the address is a multiple of 4; and whether it is so. Few
+/// Reads the word at `address` anew, where it lies in a copy and is an instruction, and the address is a multiple of 4; and whether it is so. Few
 /// words are read anew, so that this stays out of the code of each.
 #[inline(never)]
 fn learn(copies: &mut Copies, slot: &mut Slot, address: u32) -> bool
@@ -114,7 +115,7 @@ fn no_slots() -> [Slot; PLACES]
 }
 
 impl Ground {
-    /// Copies of which nothing was read yet.
+    /// The ground of `copies`, of which nothing was read yet.
     pub fn new(copies: Copies) -> Ground
         requires { All (λ p. length p.bytes ≡ 4096) copies.pages }
         ensures { result ≡ copies }
@@ -135,8 +136,7 @@ impl Ground {
         self.copies.into_parts()
     }
 
-    /// What the word at an address reads as, where it lies in a copy and is an instruction, and the address is a multiple of 4. It is
-    /// remembered.
+    /// What the word at `address` reads as, where it lies in a copy and is an instruction, and the address is a multiple of 4. It is remembered.
     #[inline(always)]
     pub(crate) fn read(&mut self, address: u32) -> Option<Reading>
         ensures same { self.new ≡ self.old }

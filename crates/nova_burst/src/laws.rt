@@ -7,9 +7,9 @@ ghost use Rattle.law_leases.specs.declared.commit.CommitDone.TheVariants.{Away, 
 ghost use Rattle.nova_model.specs.Choice.{Candidate, choice};
 ghost use Rattle.nova_model.specs.State.{KernelState};
 
-/// What a commit answers, and its numbers: Dropped, where a stir count isn't the one that the lease keeps, with those two and the two of
-/// now; else Away, where another would act, with its number, and 0 where nobody would; else NoRoom, where the lease ran more turns than
-/// there is room for, with that room; else Committed, with how many it ran. Only that one stands for turns.
+/// A commit answers Dropped, where a stir count isn't that which the lease keeps, with those two and the two of now; else Away, where another would
+/// act, with its number, and 0 where none would; else NoRoom, where the lease ran more turns than there is room for, with that room; else Committed,
+/// with how many it ran. Only Committed stands for turns.
 pub fn commits_tell_these_numbers()
     ensures dropped { (k : KernelState) (l : LeaseRun) (left : ℕ) → l.kept ≢ stirs_now k l.guest l.cpu → commit_done k l left ≡ Dropped l.kept (stirs_now k l.guest l.cpu) }
     ensures nobody { (k : KernelState) (l : LeaseRun) (left : ℕ) → l.kept ≡ stirs_now k l.guest l.cpu → choice k l.cpu ≡ None → commit_done k l left ≡ Away 0 }

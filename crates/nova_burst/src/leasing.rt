@@ -13,8 +13,8 @@ use nova_model::{EcKind, Object, Rights, State};
 use rv_core::Regs;
 use std::alloc::{AllocError, Global};
 
-/// Whom a processor's next turn lets step: the virtual CPU and its protection domain, both stir counts, what
-/// is left of the quantum, and its registers.
+/// The virtual CPU that would step next on a processor: its number and protection domain, both stir counts,
+/// what is left of the quantum, and its registers.
 #[derive(Clone, Copy)]
 pub struct Leasable {
     pub guest: u32,
@@ -24,7 +24,7 @@ pub struct Leasable {
     pub regs: Regs,
 }
 
-/// The protection domain of a virtual CPU; none where the number is that of another.
+/// The protection domain of the virtual CPU `ec`; none where the number is that of another.
 fn domain_of_virtual(kernel: &Kernel, ec: u32) -> Option<u32>
     ensures { result ≡ domain_of_virtual (slice_get kernel.now.state.objects ec) }
 {
@@ -40,7 +40,7 @@ fn domain_of_virtual(kernel: &Kernel, ec: u32) -> Option<u32>
     }
 }
 
-/// The registers of an execution context that is ready, without recall flag.
+/// The registers of the execution context `ec`, if it is ready, without recall flag.
 fn regs_to_step(kernel: &Kernel, ec: u32) -> Option<Regs>
     ensures { result ≡ regs_to_step (context kernel.now.state ec) }
 {
@@ -52,7 +52,7 @@ fn regs_to_step(kernel: &Kernel, ec: u32) -> Option<Regs>
     }
 }
 
-/// Whether an address is a multiple of 4 and lies in a page with execute of a protection domain.
+/// Whether `pc` is a multiple of 4 and lies in a page with execute of the protection domain `pd`.
 fn is_at_code(kernel: &mut Kernel, pd: u32, pc: u32) -> bool
     ensures is { result ≡ is_at_code kernel.old.state pd pc }
     ensures kept { kernel.new ≡ kernel.old }
@@ -66,7 +66,7 @@ fn is_at_code(kernel: &mut Kernel, pd: u32, pc: u32) -> bool
     }
 }
 
-/// How many turns are left of a quantum, and before something is due; none where something is.
+/// How many turns are left of a quantum of which `left` are, and before something is due; none where something is.
 fn turns_before(left: u32, until: Option<u64>) -> Option<u32>
     ensures { result ≡ turns_before left until }
 {
@@ -83,14 +83,14 @@ fn turns_before(left: u32, until: Option<u64>) -> Option<u32>
     }
 }
 
-/// The same, for the scheduling context of a processor's next turn; none where there is none.
+/// How many turns of `cpu` are left of the quantum of `sc`, and before something is due; none where there is none.
 fn turns_left(kernel: &Kernel, cpu: u32, sc: u32) -> Option<u32>
     ensures { result ≡ turns_left (left_of kernel.now.state sc) (until_due kernel.now.state.times cpu) }
 {
     turns_before(kernel.left(sc)?, kernel.until_due(cpu))
 }
 
-/// Whom a processor's next turn lets step, if it may be leased.
+/// The virtual CPU that would step next on the processor `cpu`, if it may be leased.
 fn find(kernel: &mut Kernel, cpu: u32) -> Option<Leasable>
     ensures given { is_some result ≡ is_leasable kernel.old.state cpu }
     ensures found { IfSome result (λ r. IsFound kernel.old.state cpu r) }
@@ -117,7 +117,7 @@ fn find(kernel: &mut Kernel, cpu: u32) -> Option<Leasable>
     })
 }
 
-/// A lease of the one that was found.
+/// A lease of `found`, the virtual CPU that was found on the processor `cpu`.
 fn lease_of(
     kernel: &mut Kernel,
     alloc: Global,
@@ -136,10 +136,10 @@ fn lease_of(
     Ok(lease)
 }
 
-/// A lease of the virtual CPU that acts next on a processor, with copies of at most `pages` RAM frames, at
-/// least one: the page of pc, and others of its choice. None exactly where no such one acts there, or it
-/// isn't Ready, its recall flag is set, or its pc isn't a multiple of 4 or lies in no page with execute.
-/// The kernel stays as it was.
+/// A lease of the virtual CPU that acts next on the processor `cpu`, with copies of at most `pages` RAM frames,
+/// at least one. They are the page of pc, and others of its choice. None exactly where no virtual CPU acts
+/// there, or it isn't Ready, its recall flag is set, or its pc isn't a multiple of 4 or lies in no page with
+/// execute. The kernel stays as it was.
 pub fn lease(
     kernel: &mut Kernel,
     alloc: Global,

@@ -66,7 +66,7 @@ fn run_on(steps: &mut Steps, known: &mut Vec<Known>, most: u64) -> u64
 }
 
 impl Lease {
-    /// A lease of which nothing was run yet.
+    /// A lease of the virtual CPU `guest` on the processor `cpu`, of which nothing was run yet.
     pub fn new(
         cpu: u32,
         guest: u32,
@@ -136,9 +136,9 @@ impl Lease {
         &self.steps
     }
 
-    /// Executes instructions on the copies, at most `most` and what is left of the quantum, and answers
-    /// their number. It executes fewer only where the next one would raise, store to a console or touch a
-    /// page that isn't copied. It takes no memory.
+    /// Executes at most `most` instructions on the copies, and no more than what is left of the quantum, and
+    /// answers their number. It executes fewer only where the next one would raise, store to a console or touch
+    /// a page that isn't copied. It takes no memory.
     pub fn run(&mut self, most: u64) -> u64
         ensures most { result ≤ most }
         ensures left { self.new.run.steps.count ≤ self.new.run.left }

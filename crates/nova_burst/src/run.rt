@@ -13,7 +13,7 @@ pub struct Burst {
     pub copies: Ground,
 }
 
-/// One instruction on copies; or nothing, where it would raise or touches what isn't copied.
+/// Executes one instruction of `regs` on `copies`; or nothing, where it would raise or touches what isn't copied.
 #[inline(always)]
 fn step(regs: &mut Regs, copies: &mut Ground) -> bool
     requires room { HasRoom copies.old }
@@ -33,9 +33,8 @@ fn step(regs: &mut Regs, copies: &mut Ground) -> bool
 }
 
 impl Burst {
-    /// Executes instructions on the copies, at most so many, and answers their number. It executes fewer
-    /// only where the next one would raise or touches what isn't copied. So few stores were counted that
-    /// there is room for all to come.
+    /// Executes at most `most` instructions on the copies, and answers their number. It executes fewer only
+    /// where the next one would raise or touches what isn't copied. The store counters can't overflow.
     pub fn run(&mut self, most: u64) -> u64
         requires few { HasFewStores (2 ^ 32) self.old.copies }
         requires most { most < 2 ^ 32 }

@@ -26,7 +26,7 @@ is_flag word = nat_le word 1
 abbrev pub kind_of : ℕ → Option EcKind
 kind_of n = if n == 0 then Some Local else if n == 1 then Some Global else if n == 2 then Some Vcpu else None
 
--- what is done to a semaphore: 0 up, 1 down, 2 down that waits for at most so many ticks
+-- what is done to a semaphore: 0 up, 1 down, 2 down that waits for at most `ticks` ticks
 abbrev pub action_of : ℕ → ℕ → Option SmAction
 action_of n ticks = if n == 0 then Some Up else if n == 1 then Some Down else if n == 2 then Some (DownWithin ticks) else None
 

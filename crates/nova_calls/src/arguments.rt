@@ -6,14 +6,14 @@ use crate::call::SmAction;
 use nova_objects::EcKind;
 use nova_range::{Range, read_word};
 
-/// A selector, or nothing where the word is none.
+/// The selector `word`, or nothing where the word is none.
 pub(crate) fn selector(word: u32) -> Option<u32>
     ensures { result ≡ (if is_selector word then Some word else None) }
 {
     if word < 1 << 20 { Some(word) } else { None }
 }
 
-/// A flag, or nothing where the word is neither 0 nor 1.
+/// The flag `word`, or nothing where the word is neither 0 nor 1.
 pub(crate) fn flag(word: u32) -> Option<bool>
     ensures { result ≡ (if is_flag word then Some (word == 1) else None) }
 {
@@ -24,7 +24,7 @@ pub(crate) fn flag(word: u32) -> Option<bool>
     }
 }
 
-/// A kind of execution context, or nothing where no kind has the number.
+/// The kind of execution context of `number`, or nothing where no kind has the number.
 pub(crate) fn ec_kind(number: u32) -> Option<EcKind>
     ensures { result ≡ kind_of number }
 {
@@ -36,8 +36,7 @@ pub(crate) fn ec_kind(number: u32) -> Option<EcKind>
     }
 }
 
-/// What is done to a semaphore, with the ticks of a down that waits for so long, or nothing where no
-/// action has the number.
+/// The action on a semaphore that has `number`, or nothing where none has it; a down that is limited waits for at most `ticks` ticks.
 pub(crate) fn sm_action(number: u32, ticks: u32) -> Option<SmAction>
     ensures { result ≡ action_of number ticks }
 {
@@ -49,7 +48,7 @@ pub(crate) fn sm_action(number: u32, ticks: u32) -> Option<SmAction>
     }
 }
 
-/// The range of a range word, or nothing where the word doesn't read or is null.
+/// The range of the range word `word`, or nothing where the word doesn't read or is null.
 pub(crate) fn range(word: u32) -> Option<Range>
     ensures range { result ≡ range_of word }
     ensures sound { IfSome result IsRange }

@@ -6,7 +6,7 @@ use nova_range::{Mtd, Range, Rights};
 pub enum SmAction {
     Up,
     Down,
-    /// A down that waits for at most so many ticks.
+    /// A down that waits for at most this many ticks.
     DownWithin(u32),
 }
 

@@ -6,12 +6,12 @@ ghost use Rattle.nova_calls.specs.SoundCalls.{IsSoundCall};
 
 use crate::call::Call;
 
-/// The arguments of each call that registers are read as are in their ranges, where x13 is a word.
+/// Arguments of a call that registers are read as are in their ranges, where x13 is a word.
 pub fn calls_that_are_read()
     ensures { (r : Registers) → reg r 13 < 2 ^ 32 → IfOk (call_of r) IsSoundCall }
 {}
 
-/// A call that registers are read as is the one whose number is in x17.
+/// The call that registers are read as has the number in x17.
 pub fn calls_have_their_numbers()
     ensures { (r : Registers) (c : Call) → call_of r ≡ Ok c → number_of c ≡ reg r 17 }
 {}

@@ -167,9 +167,9 @@ fn sm_ctrl(regs: &Regs) -> Option<Call>
     })
 }
 
-/// Reads the hypercall that a thread's registers ask for: its number from x17, and its arguments from
-/// x10 to x14. It is `BadHyp` where no call has the number, and else `BadPar` where an argument is
-/// outside what the call takes.
+/// Reads the hypercall that `regs`, a thread's registers, ask for: its number from x17, and its arguments from
+/// x10 to x14. It is `BadHyp` where no call has the number, and else `BadPar` where an argument is outside what
+/// the call takes.
 #[tactic(auto, unfolding(crate::specs::Hypercalls::call_of))]
 pub fn read_call(regs: &Regs) -> Result<Call, Status>
     ensures exact { result ≡ call_of regs.now }

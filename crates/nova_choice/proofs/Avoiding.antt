@@ -12,11 +12,11 @@ use Rattle.nova_ec.proofs.Untouched.{as_far, same_acts, turns_stay}
 use Rattle.nova_sched.specs.Queues.{Schedule}
 use Rattle.nova_choice.specs.Schedules.{AreQueued, AreQueuedWhere, Avoids, IsAtHome, leads, owner_in, wanted_with}
 
--- one that avoids another isn't it
+-- a context that avoids another isn't it
 apart : (cs : Contexts) (e x : ℕ) → Avoids cs e x → x ≢ e
 apart cs e x avoids same = avoids 0 (ap Some same)
 
--- one changes: who avoids it, waits for such as avoid it too
+-- a context changes: a context that avoids it waits for such as avoid it too
 pub avoiding_leads : (cs : Contexts) (e x : ℕ) (y : EcState) → AreEdges cs → Avoids (with_ec cs e y) e x → leads (with_ec cs e y) x ≡ leads cs x
 avoiding_leads cs e x y sound avoids =
     let ds = with_ec cs e y in

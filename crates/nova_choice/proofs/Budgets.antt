@@ -39,7 +39,7 @@ pub budget_queued : (s : Schedule) (count sc : ℕ) → entry (slice_get (budget
 unfolding budgets_of
 budget_queued s count sc = padded_at (map budget_in s.entries) (count - length (map budget_in s.entries)) sc ∙ budgets_at s.entries sc
 
--- one that is there has its place
+-- an entry that is there has its place
 pub below : {T : Type 0} → (xs : List (Option T)) (i : ℕ) (x : T) → entry (slice_get xs i) ≡ Some x → i < length xs
 below [] i x h = absurd cc
 below (y ∷ xs) zero x h = omega arith
@@ -57,7 +57,7 @@ padded_set [] ys i x h = absurd (omega (arith, h))
 padded_set (z ∷ xs) ys zero x h = refl
 padded_set {T = T} (z ∷ xs) ys (suc i) x h = ap (λ (zs : List (Option T)). z ∷ zs) (padded_set xs ys i x (omega (arith, h)))
 
--- one that is there has another budget
+-- a scheduling context that is there has another budget
 pub budgets_set : (s : Schedule) (count sc : ℕ) (e d : Queued) → queued_at s sc ≡ Some e →
     budgets_of (with_entry s sc d) count ≡ slice_set (budgets_of s count) sc (Some d.budget)
 unfolding budgets_of

@@ -1,4 +1,4 @@
--- The choice and its turn, by the number of the scheduling context and who acts.
+-- The choice and its turn, by the number of the scheduling context and the context that acts.
 use Rattle.std.proofs.Common.{◌≡◌, ℕ, refl, ap, ◌∙◌}
 use Rattle.std.specs.Prelude.{true, false, Option, Some, None, is_none, is_some, option_map}
 use Rattle.nova_model.specs.Choice.{Candidate, choice, choose}
@@ -13,7 +13,7 @@ use Rattle.nova_choice.specs.Schedules.{AreQueued}
 use Rattle.nova_choice.specs.declared.choice.Chosen.{Chosen}
 use Rattle.nova_choice.proofs.Nexts.{choose_told, chosen_acts}
 
--- who acts in the turns of the one that the queues choose is who acts in those of the one that is chosen
+-- the context that acts in the turns of the scheduling context that the queues choose is that which acts in those of the one that is chosen
 pub led_chosen : (k : KernelState) (s : Schedule) (cpu : ℕ) → AreQueued k s → led k (queues.choose s cpu) ≡ option_map chosen_of (choice k cpu)
 led_chosen k s cpu queued = ap (led k) (choose_told k s cpu queued) ∙ by_choice (choice k cpu) refl
   where
@@ -45,7 +45,7 @@ no_choice : (o : Option Candidate) → None ≡ option_map chosen_of o → o ≡
 no_choice None h = refl
 no_choice (Some c) h = absurd cc
 
--- where nobody is chosen: an idle one, or a tick
+-- where none is chosen: an idle turn, or a tick
 pub turn_none : (k : KernelState) (cpu : ℕ) → due_on k.times cpu ≡ None → None ≡ option_map chosen_of (choice k cpu) → next_moment k.times cpu ≡ None → turn k cpu ≡ None
 unfolding turn
 turn_none k cpu none h nothing = ap (turn_by k cpu) none ∙ ap (chosen_by k cpu) (no_choice (choice k cpu) h) ∙ ap (tick_by k cpu) nothing

@@ -127,7 +127,7 @@ remarked_length : (objects : List Object) (cs : Contexts) (scs : List ℕ) (s : 
 remarked_length objects cs [] s = refl
 remarked_length objects cs (sc ∷ scs) s = remarked_length objects cs scs (marked s sc (mark_of objects cs sc)) ∙ marked_length s sc (mark_of objects cs sc)
 
--- a scheduling context that waits as it is wanted is marked by who acts in its turns
+-- a scheduling context that waits as it is wanted is marked by the context that acts in its turns
 acts_in : (cs : Contexts) (ec : ℕ) → leads cs ec ≡ is_some (actor_of cs (Some (Sc ec 0 0 0)))
 acts_in cs ec = by_test (leads cs ec)
   where
@@ -195,7 +195,7 @@ remarked_queued k s home queued = record {
   owners = queued.owners;
 }
 
--- one alone is marked, where the one to whom ways come has no other scheduling context
+-- one alone is marked, where the context to which ways come has no other scheduling context
 pub marked_own : (k : KernelState) (s : Schedule) (moved at x : ℕ) → AreQueuedBy moved at k s → ((sc : ℕ) → owner_in (slice_get k.objects sc) ≡ Some at → x ≡ sc) →
     AreQueuedBeyond moved at k (remarked k.objects k.contexts (x ∷ []) s)
 marked_own k s moved at x queued only = record {
@@ -272,7 +272,7 @@ last_edge g n e at way = by_mid (after_edges n g e) refl (sym (after_edges-last 
     by_mid None is last = absurd cc
     by_mid (Some y) is last = (y, is, last)
 
--- where nobody waits for it, all are right
+-- where none waits for it, all are right
 pub beyond_nobody : (k : KernelState) (s : Schedule) (moved at : ℕ) → AreQueuedBeyond moved at k s → ((z : ℕ) → edge k.contexts z ≢ Some at) → AreQueued k s
 beyond_nobody k s moved at queued nobody = record {
   cpus = queued.near.cpus;
@@ -287,7 +287,7 @@ beyond_nobody k s moved at queued nobody = record {
     by_owner None = tt
     by_owner (Some ec) = λ n meets. let last = last_edge (edge k.contexts) n ec at meets in nobody last.0 last.2
 
--- where one waits for it alone, those that never come to that one are
+-- where one context waits for it alone, those that never come to that are
 pub beyond_only : (k : KernelState) (s : Schedule) (moved at waiter : ℕ) → AreQueuedBeyond moved at k s → ((z : ℕ) → edge k.contexts z ≡ Some at → waiter ≡ z) → AreQueuedBy moved waiter k s
 beyond_only k s moved at waiter queued only = record {
   near = queued.near;
@@ -327,7 +327,7 @@ drop_here [] i h = absurd (omega (arith, h))
 drop_here (x ∷ xs) zero h = refl
 drop_here (x ∷ xs) (suc i) h = drop_here xs i (omega (arith, h))
 
--- the next one is there
+-- the next is there
 pub next_there : (s : Schedule) (cpu i : ℕ) (ms : List ℕ) → ms ≡ members s cpu → i < length ms → IsSome (queued_at s (slice_index_or ms i 0))
 next_there s cpu i ms is below = members_there s cpu i (slice_index_or ms i 0) (ap (λ (xs : List ℕ). slice_get xs i) (sym is) ∙ index_there ms i below)
 

@@ -117,7 +117,7 @@ number_told (Some c) = refl
 pub choose_told : (k : KernelState) (s : Schedule) (cpu : ℕ) → AreQueued k s → queues.choose s cpu ≡ choose k cpu
 choose_told k s cpu queued = ap (option_map (λ (r : Runnable). r.sc)) (next_told k s cpu queued) ∙ number_told (choice k cpu)
 
--- WHO ACTS
+-- WHICH CONTEXT ACTS
 
 -- a candidate that is chosen is that of its own number
 found_of : (p : Candidate → Bool) (k : KernelState) (cpu n : ℕ) (os : List Object) (c : Candidate) → find p (candidates_from k cpu n os) ≡ Some c →
@@ -143,7 +143,7 @@ found_of p k cpu n (o ∷ os) c h =
         by_test true passes f = (0, o, refl, ap (λ (m : ℕ). candidate_of k cpu m o) (let e : n + 0 ≡ n = omega arith in e) ∙ is ∙ f)
         by_test false passes f = later f
 
--- who acts in its turns
+-- the context that acts in its turns
 acting : (k : KernelState) (cpu sc : ℕ) (o : Object) (c : Candidate) → candidate_of k cpu sc o ≡ Some c → (c.sc ≡ sc) × (actor_of k.contexts (Some o) ≡ Some c.actor)
 acting k cpu sc (Sc ec its_cpu priority quantum) c h = by_test (its_cpu == cpu) (leads k.contexts ec) refl (budget_at k sc) h
   where
@@ -160,7 +160,7 @@ acting k cpu sc (Ec pd its_cpu kind event) c h = absurd cc
 acting k cpu sc (Pt ec mtd ip) c h = absurd cc
 acting k cpu sc Sm c h = absurd cc
 
--- who acts in the turns of the one that is chosen
+-- the context that acts in the turns of the chosen scheduling context
 pub chosen_acts : (k : KernelState) (cpu : ℕ) (c : Candidate) → choice k cpu ≡ Some c → actor_of k.contexts (slice_get k.objects c.sc) ≡ Some c.actor
 unfolding choice
 chosen_acts k cpu c chosen =

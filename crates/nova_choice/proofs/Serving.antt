@@ -1,5 +1,5 @@
--- A call and its reply: turns that led to a caller lead to its handler, and back again, so that but for the handler's own they lead to one that acts
--- before and after.
+-- A call and its reply: turns that led to a caller lead to its handler, and back again, so that but for the handler's own they lead to a context that
+-- acts before and after.
 use Rattle.std.proofs.Common.{◌≡◌, ℕ, zero, suc, ◌≤◌, List, length, refl, ap, ap₂, sym, ◌∙◌, subst, arith}
 use Rattle.std.specs.Prelude.{Bool, true, false, ◌==◌, ◌||◌, ◌≢◌, Option, Some, None, is_none, option_and_then, slice_get}
 use Rattle.nova_model.specs.Edges.{AreEdges, acts, acts_as, acts_by, edge, edge_of, is_dead, is_free, met, state_in}
@@ -36,7 +36,7 @@ leads_on cs z w sound idle way =
 -- A CALL
 
 -- Two tables that differ in two execution contexts alone: in the first the caller acts and its handler is parked, and in the second the caller waits
--- for the handler, which acts; nobody else waits for its reply.
+-- for the handler, which acts; no other waits for its reply.
 pub record IsServing (cs ds : Contexts) (c h : ℕ) : Type 0 where
   pub idle_edges : AreEdges cs
   pub busy_edges : AreEdges ds
@@ -47,7 +47,7 @@ pub record IsServing (cs ds : Contexts) (c h : ℕ) : Type 0 where
   pub serves : acts ds h ≡ true
   pub others : (z : ℕ) → z ≢ c → z ≢ h → state_in ds z ≡ state_in cs z
 
--- who waits for another sees no difference, unless that is the handler
+-- a context that waits for another sees no difference, unless that is the handler
 same_dead : (cs ds : Contexts) (c h w : ℕ) → IsServing cs ds c h → w ≢ h → is_dead (state_in ds w) ≡ is_dead (state_in cs w)
 same_dead cs ds c h w both apart = by_place (w == c) refl
   where
@@ -66,7 +66,7 @@ same_free cs ds c h w both apart = by_place (w == c) refl
         ap (λ (n : ℕ). is_free (state_in ds n)) at ∙ ap is_free both.waits ∙ sym (awake cs c both.calls).free ∙ ap (λ (n : ℕ). is_free (state_in cs n)) (sym at)
     by_place false is = ap is_free (both.others w (λ at. absurd (grind (arith, is, at))) apart)
 
--- one that is about to help the handler, or to send it an exit, acts while it is parked alone
+-- a context that is about to help the handler, or to send it an exit, acts while it is parked alone
 free_acts : (s : State) (h : ℕ) → edge_of s ≡ Some h → s ≢ Calling h → acts_by s (Some Parked) ≡ true
 free_acts (Calling g) h is other = absurd (other (let same : g ≡ h = cc in ap Calling same))
 free_acts (Helping g) h is other = refl
@@ -102,7 +102,7 @@ caller_leads cs ds c h both =
     ∙ leads_here ds h both.busy_edges both.serves
     ∙ sym (leads_here cs c both.idle_edges both.calls)
 
--- those of one that waits for the handler
+-- those of a context that waits for the handler
 helper_leads : (cs ds : Contexts) (c h z : ℕ) (s : State) → IsServing cs ds c h → state_in cs z ≡ Some s → state_in ds z ≡ Some s → edge_of s ≡ Some h → leads ds z ≡ leads cs z
 helper_leads cs ds c h z s both before now way =
     let handler = awake ds h both.serves in
@@ -116,7 +116,7 @@ helper_leads cs ds c h z s both before now way =
     ∙ ap (acts_by s) both.parked
     ∙ free_acts s h way (λ same. both.alone z (before ∙ ap Some same))))
 
--- those of one that waits for nobody
+-- those of a context that waits for none
 alone_leads : (cs ds : Contexts) (z : ℕ) (o : Option State) → AreEdges cs → AreEdges ds → state_in cs z ≡ o → state_in ds z ≡ o → option_and_then edge_of o ≡ None →
     acts_as ds o ≡ acts_as cs o → leads ds z ≡ leads cs z
 alone_leads cs ds z o first second before now none same =
@@ -125,7 +125,7 @@ alone_leads cs ds z o first second before now none same =
     ∙ same
     ∙ sym (leads_end cs z first (ap (option_and_then edge_of) before ∙ none) ∙ ap (acts_as cs) before)
 
--- those of one that waits for another
+-- those of a context that waits for another
 waiter_leads : (cs ds : Contexts) (c h z w : ℕ) (s : State) → IsServing cs ds c h → state_in cs z ≡ Some s → state_in ds z ≡ Some s → edge_of s ≡ Some w → w ≢ h →
     leads ds w ≡ leads cs w → leads ds z ≡ leads cs z
 waiter_leads cs ds c h z w s both before now way apart rest = by_test (acts cs z) refl
@@ -144,7 +144,7 @@ waiter_leads cs ds c h z w s both before now way apart rest = by_test (acts cs z
         ∙ rest
         ∙ sym (leads_on cs z w both.idle_edges is (ap (option_and_then edge_of) before ∙ way))
 
--- those of any other, where those of whom it waits for stay
+-- those of any other, where those of the handler that it waits for stay
 leads_at : (cs ds : Contexts) (c h z : ℕ) → IsServing cs ds c h → z ≢ h → ((w : ℕ) → edge cs z ≡ Some w → w ≢ h → leads ds w ≡ leads cs w) → leads ds z ≡ leads cs z
 leads_at cs ds c h z both apart rest = by_place (z == c) refl
   where

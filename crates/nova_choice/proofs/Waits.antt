@@ -1,4 +1,4 @@
--- What a deed leaves of the queues: the marks of one processor alone may be old, and those of none where the deed moves nobody.
+-- What a deed leaves of the queues: the marks of one processor alone may be old, and those of none where the deed moves none.
 use Rattle.std.proofs.Common.{◌≡◌, ℕ, ◌==◌, List, length, refl, ap, ap₂, sym, ◌∙◌, arith, IsSome}
 use Rattle.std.proofs.lemmas.List.{length-set}
 use Rattle.std.specs.List.{find}
@@ -144,7 +144,7 @@ leads_any stale cs ds kept = record { same = λ ec home at fresh. kept.same ec h
 
 -- TWO EXECUTION CONTEXTS OF ONE PROCESSOR CHANGE
 
--- one that is there on a processor other than this
+-- a context that is there on a processor other than `home`
 abbrev IsApart : Contexts → ℕ → ℕ → Type 0
 IsApart cs home x = (cpu : ℕ) × (cpu_in cs x ≡ Some cpu) × ((cpu == home) ≡ false)
 
@@ -167,7 +167,7 @@ there_by_cpu cs x cpu is = by_place (ec_in cs x) is
     by_place None h = absurd cc
     by_place (Some y) h = refl
 
--- whoever is apart from a processor is none of it
+-- a context that is apart from a processor is none of it
 not_there : (cs : Contexts) (home e x : ℕ) → cpu_in cs e ≡ Some home → IsApart cs home x → x ≢ e
 not_there cs home e x at apart same =
     let cpu : apart.0 ≡ home = (let both : Some apart.0 ≡ Some home = sym apart.1 ∙ ap (cpu_in cs) same ∙ at in cc) in

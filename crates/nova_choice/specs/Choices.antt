@@ -1,4 +1,4 @@
--- The choice and its turn, by the number of the scheduling context and who acts.
+-- The choice and its turn, by the number of the scheduling context and the context that acts.
 use Rattle.std.specs.Prelude.{ℕ, slice_get, Option, Some, None}
 use Rattle.nova_model.specs.Choice.{Candidate}
 use Rattle.nova_model.specs.Deeds.{deed, done}
@@ -8,11 +8,11 @@ use Rattle.nova_model.specs.Turn.{Step, charged, event_by}
 use Rattle.nova_choice.specs.Schedules.{actor_of}
 use Rattle.nova_choice.specs.declared.choice.Chosen.{Chosen}
 
--- of a candidate its number and who acts
+-- of a candidate its number and the context that acts
 abbrev pub chosen_of : Candidate → Chosen
 chosen_of c = record { sc = c.sc; actor = c.actor }
 
--- a scheduling context with the one who acts in its turns
+-- a scheduling context with the context that acts in its turns
 abbrev pub led_by : ℕ → Option ℕ → Option Chosen
 led_by sc None = None
 led_by sc (Some actor) = Some (record { sc = sc; actor = actor })

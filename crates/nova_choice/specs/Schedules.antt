@@ -21,7 +21,7 @@ use Rattle.nova_ec.specs.Tables.{actor_in}
 use Rattle.nova_sched.specs.Queues.{HasRoom, QueuesState, Schedule, added, marked, padded, queued_at}
 use Rattle.nova_sched.specs.declared.queued.Queued.{Queued}
 
--- the budgets of scheduling contexts, in a table of so many numbers
+-- the budgets of scheduling contexts, in a table of `count` numbers
 unfoldable pub budgets_of : Schedule → ℕ → List (Option Budget)
 budgets_of s count = padded count (map (option_map (λ e. e.budget)) s.entries)
 
@@ -43,11 +43,11 @@ abbrev pub called_at : Option EcState → Option ℕ
 called_at (Some x) = called_of x.state
 called_at None = None
 
--- the turns that an execution context is given lead to one that acts
+-- the turns that an execution context is given lead to a context that acts
 abbrev pub leads : Contexts → ℕ → Bool
 leads cs ec = acts cs (chase cs ec)
 
--- who acts in the turns of a scheduling context
+-- the context that acts in the turns of a scheduling context
 abbrev pub actor_of : Contexts → Option Object → Option ℕ
 actor_of cs (Some (Sc ec cpu priority quantum)) = actor_in cs ec
 actor_of cs other = None
@@ -61,7 +61,7 @@ wanted_with cs object budget = None
 abbrev pub wanted : KernelState → ℕ → Option Queued
 wanted k sc = wanted_with k.contexts (slice_get k.objects sc) (budget_at k sc)
 
--- an execution context is of the processor that its object names, one of so many, and a scheduling context of that of its execution context
+-- an execution context is of the processor that its object names, one of `cpus`, and a scheduling context of that of its execution context
 abbrev pub IsAtHome : ℕ → Contexts → ℕ → Option Object → Type 0
 IsAtHome cpus cs number (Some (Ec pd cpu kind event)) = (cpu < cpus) × (cpu_in cs number ≡ Some cpu)
 IsAtHome cpus cs number (Some (Sc ec cpu priority quantum)) = (cpu < cpus) × (cpu_in cs ec ≡ Some cpu)
@@ -125,13 +125,13 @@ NeverWaits cs other ec = (n : ℕ) → after_edges (suc n) (edge cs) ec ≢ Some
 abbrev pub AreQueuedWhere : (ℕ → Type 0) → KernelState → Schedule → Type 0
 AreQueuedWhere P k s = (sc : ℕ) → IfSome (owner_in (slice_get k.objects sc)) P → queued_at s sc ≡ wanted k sc
 
--- One moved: the queues are right but for the marks of its processor, and of those but for the marks of scheduling contexts whose ways come to this one,
--- which may be itself.
+-- A context moved: the queues are right but for the marks of its processor, `moved`, and of those but for the marks of scheduling contexts whose ways
+-- come to `at`, which may be itself.
 pub record AreQueuedBy (moved at : ℕ) (k : KernelState) (s : Schedule) : Type 0 where
   pub near : AreQueuedBut (cpu_in k.contexts moved) k s
   pub others : AreQueuedWhere (Avoids k.contexts at) k s
 
--- the same where those of that one itself are right too
+-- the same where those of `at` itself are right too
 pub record AreQueuedBeyond (moved at : ℕ) (k : KernelState) (s : Schedule) : Type 0 where
   pub near : AreQueuedBut (cpu_in k.contexts moved) k s
   pub others : AreQueuedWhere (NeverWaits k.contexts at) k s
@@ -162,8 +162,8 @@ abbrev pub schedule_after : KernelState → ℕ → Schedule → Deed → Schedu
 schedule_after k ec s (Makes call target new) = joined (with_ec k.contexts ec (actor_after (context k ec) (Makes call target new))) s (length k.objects) new
 schedule_after k ec s other = s
 
--- One that does this may cease to act, and nobody else begins to in the turns that led to it. After any other deed they lead to one that acts as
--- before: to itself; to the handler that it calls or to whom it raises an exit; or to the caller to whom it replies.
+-- A context that does this may cease to act, and no other begins to in the turns that led to it. After any other deed they lead to a context that
+-- acts as before: to itself; to the handler that it calls or to which it raises an exit; or to the caller to which it replies.
 abbrev pub is_moving : Deed → Bool
 is_moving (Dies reason q0) = true
 is_moving (Waits handler reason q0 q1) = true
@@ -172,12 +172,12 @@ is_moving (Aborts handler Exit) = true
 is_moving (Blocks sm until) = true
 is_moving other = false
 
--- an up moves whom it wakes alone, who may be of another processor
+-- an up affects only the context that it wakes, which may be of another processor
 abbrev pub moved_by : ℕ → Deed → Option ℕ
 moved_by ec (Ups sm whom) = whom
 moved_by ec d = if is_moving d then Some ec else None
 
--- so that the marks of that one's processor are old then
+-- so that the marks of that context's processor are old then
 abbrev pub stale_by : Contexts → ℕ → Deed → Option ℕ
 stale_by cs ec d = option_and_then (cpu_in cs) (moved_by ec d)
 

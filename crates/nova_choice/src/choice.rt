@@ -14,7 +14,7 @@ pub struct Chosen {
     pub actor: u32,
 }
 
-/// Whether an execution context is ready, so that it acts in its own turns.
+/// Whether the execution context `ec` is ready, so that it acts in its own turns.
 fn is_ready(contexts: &Ecs, ec: u32) -> bool
     ensures { result ≡ is_ready_at (ec_in contexts.now.items ec) }
 {
@@ -24,7 +24,7 @@ fn is_ready(contexts: &Ecs, ec: u32) -> bool
     }
 }
 
-/// The handler that an execution context called, where it waits for a reply.
+/// The handler that the execution context `ec` called, where it waits for a reply.
 fn called(contexts: &Ecs, ec: u32) -> Option<u32>
     ensures { result ≡ called_at (ec_in contexts.now.items ec) }
 {
@@ -34,8 +34,8 @@ fn called(contexts: &Ecs, ec: u32) -> Option<u32>
     }
 }
 
-/// The execution context that acts in the turns of one that is not ready: the end of its chase, where that one acts. Most wait for the reply
-/// of a handler that is ready. Few turns need it, so that it stays out of the code of each choice.
+/// The execution context that acts in the turns of `ec`, which is not ready: the end of its chase, where that acts. Most wait for the reply of a
+/// handler that is ready. Few turns need it, so that it stays out of the code of each choice.
 #[inline(never)]
 #[tactic(auto, using(crate::proofs::Handlers::handler_acts))]
 fn chased_actor(contexts: &Ecs, ec: u32) -> Option<u32>
@@ -51,8 +51,7 @@ fn chased_actor(contexts: &Ecs, ec: u32) -> Option<u32>
     contexts.actor(ec)
 }
 
-/// The execution context that acts in the turns of a scheduling context; none where none acts, and of
-/// another object.
+/// The execution context that acts in the turns of the scheduling context `sc`; none where none acts, and of another object.
 #[inline(always)]
 pub fn actor_of(objects: &Objects, contexts: &Ecs, sc: u32) -> Option<u32>
     ensures actor { result ≡ actor_of contexts.now.items (slice_get objects.now.items sc) }

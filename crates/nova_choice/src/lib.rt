@@ -1,4 +1,4 @@
-//! Which scheduling context has the next turn of a processor, and who acts in it: how queues stand to the state.
+//! Which scheduling context has the next turn of a processor, and the context that acts in it: how queues stand to the state.
 #![tactic(auto)]
 
 pub mod choice;

@@ -9,8 +9,8 @@ use nova_objects::Objects;
 use nova_sched::Queues;
 use std::alloc::{AllocError, Global};
 
-/// A scheduling context that is made joins the queue of its processor, and is marked by whether its
-/// turns lead to an execution context that acts.
+/// Adds `new`, a scheduling context that is made with `number`, to the queue of its processor. It is marked by
+/// whether its turns lead to an execution context that acts.
 pub fn enqueue(queues: &mut Queues, contexts: &Ecs, number: u32, new: NewObject)
     requires few { length queues.old.all.entries ≤ number }
     requires room { HasQueue new number queues.old }
@@ -29,8 +29,7 @@ pub fn enqueue(queues: &mut Queues, contexts: &Ecs, number: u32, new: NewObject)
     }
 }
 
-/// Marks the scheduling contexts of a processor by whether their turns lead to an execution context
-/// that acts.
+/// Marks the scheduling contexts of the processor `cpu` by whether their turns lead to an execution context that acts.
 pub fn mark_all(queues: &mut Queues, objects: &Objects, contexts: &Ecs, cpu: u32)
     ensures { queues.new.all ≡ remarked objects.now.items contexts.now.items (members queues.old.all cpu) queues.old.all }
 {
@@ -41,7 +40,7 @@ pub fn mark_all(queues: &mut Queues, objects: &Objects, contexts: &Ecs, cpu: u32
     }
 }
 
-/// Marks one scheduling context by that; another object has no mark.
+/// Marks the scheduling context `sc` by whether its turns lead to an execution context that acts; another object has no mark.
 pub fn mark_one(queues: &mut Queues, objects: &Objects, contexts: &Ecs, sc: u32)
     ensures { queues.new.all ≡ remarked objects.now.items contexts.now.items (sc ∷ []) queues.old.all }
 {
@@ -51,8 +50,8 @@ pub fn mark_one(queues: &mut Queues, objects: &Objects, contexts: &Ecs, sc: u32)
     }
 }
 
-/// Whether an execution context that does this may cease to act, and no other acts in the turns that
-/// led to it.
+/// Whether an execution context that does `deed` may cease to act, and no other acts in the turns that led to it.
+#[inline(always)]
 fn is_moving(deed: Deed) -> bool
     ensures { result ≡ is_moving deed }
 {
@@ -69,8 +68,9 @@ fn is_moving(deed: Deed) -> bool
     )
 }
 
-/// Whose turns may be led elsewhere after a deed of an execution context: its own where it moves, and after
-/// an up those of whom that wakes.
+/// The execution context whose turns may be led elsewhere after `ec` does `deed`: `ec` itself where it moves,
+/// and after an up the context that it wakes.
+#[inline(always)]
 pub fn moved_by(ec: u32, deed: Deed) -> Option<u32>
     ensures { result ≡ moved_by ec deed }
 {
@@ -81,8 +81,8 @@ pub fn moved_by(ec: u32, deed: Deed) -> Option<u32>
     }
 }
 
-/// The queues, with the root's scheduling context, which has a full quantum and the first stamp, and is
-/// runnable. A machine without processors has a queue too, for that one.
+/// The queues of `cpus` processors, with the root's scheduling context, which has a full quantum and the first
+/// stamp, and is runnable. A machine without processors has a queue too, for that scheduling context.
 #[tactic(auto, unfolding(crate::specs::Schedules::root_schedule))]
 pub fn root_queues(alloc: Global, cpus: u32, root: Root) -> Result<Queues, AllocError>
     ensures { IfOk result (λ q. q.all ≡ root_schedule cpus root) }

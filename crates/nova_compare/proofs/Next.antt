@@ -1,4 +1,4 @@
--- The vertex of a kernel that begins, and the one after a turn.
+-- The vertex of a kernel that begins, and the vertex after a turn.
 use Rattle.std.proofs.Common.{◌≡◌, ℕ, ◌+◌, List, [], length, map, ap, sym, ◌∙◌, subst, refl}
 use Rattle.std.specs.Prelude.{Option, Some, None, IsSome, replicate}
 use Rattle.nova_model.specs.Boot.{Scenario, boot}

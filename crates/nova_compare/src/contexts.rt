@@ -13,7 +13,7 @@ fn count_registers(regs: &Regs)
     copy.put(1, &[]);
 }
 
-/// Whether two register files are equal, of which x0 is equal.
+/// Whether the register files `a` and `b` are equal, of which x0 is equal.
 fn same_registers(a: &Regs, b: &Regs) -> bool
     requires { slice_index a.now.x 0 ≡ slice_index b.now.x 0 }
     ensures { OnTrue result (a.now ≡ b.now) }
@@ -31,7 +31,7 @@ fn same_registers(a: &Regs, b: &Regs) -> bool
     true
 }
 
-/// Whether two spaces are the same.
+/// Whether `a` and `b` are the same.
 pub(crate) fn same_space(a: Kind, b: Kind) -> bool
     ensures { OnTrue result (a ≡ b) }
 {
@@ -41,14 +41,14 @@ pub(crate) fn same_space(a: Kind, b: Kind) -> bool
     }
 }
 
-/// Whether two ranges are equal.
+/// Whether `a` and `b` are equal.
 fn same_range(a: Range, b: Range) -> bool
     ensures { OnTrue result (a ≡ b) }
 {
     same_space(a.kind, b.kind) && a.base == b.base && a.order == b.order
 }
 
-/// Whether two marks are equal.
+/// Whether `a` and `b` are equal.
 fn same_mark(a: Mark, b: Mark) -> bool
     ensures { OnTrue result (a ≡ b) }
 {
@@ -71,7 +71,7 @@ fn same_caller(a: Option<(u32, Mark)>, b: Option<(u32, Mark)>) -> bool
     }
 }
 
-/// Whether a state is that of an exit that was raised and isn't sent.
+/// Whether `state` is that of an exit that was raised and isn't sent.
 fn is_exiting(state: State, reason: u32, q0: u32, q1: u32) -> bool
     ensures { OnTrue result (state ≡ State.Exiting reason q0 q1) }
 {
@@ -81,7 +81,7 @@ fn is_exiting(state: State, reason: u32, q0: u32, q1: u32) -> bool
     }
 }
 
-/// Whether a state is that of an exit that found this handler busy.
+/// Whether `state` is that of an exit that found this handler busy.
 fn is_sending(state: State, reason: u32, q0: u32, q1: u32, handler: u32) -> bool
     ensures { OnTrue result (state ≡ State.Sending reason q0 q1 handler) }
 {
@@ -91,7 +91,7 @@ fn is_sending(state: State, reason: u32, q0: u32, q1: u32, handler: u32) -> bool
     }
 }
 
-/// Whether a state is that of one that gives to this protection domain, or takes the items of a call.
+/// Whether `state` is that of a context that gives to the protection domain `domain`, or, with none, takes the items of a call.
 fn is_granting(state: State, domain: Option<u32>) -> bool
     ensures { OnTrue result (state ≡ State.Granting domain) }
 {
@@ -105,7 +105,7 @@ fn is_granting(state: State, domain: Option<u32>) -> bool
     }
 }
 
-/// Whether a state is that of one that revokes this range.
+/// Whether `state` is that of a context that revokes `range`.
 fn is_revoking(state: State, range: Range, own: bool) -> bool
     ensures { OnTrue result (state ≡ State.Revoking range own) }
 {
@@ -115,7 +115,7 @@ fn is_revoking(state: State, range: Range, own: bool) -> bool
     }
 }
 
-/// Whether two states are equal.
+/// Whether `a` and `b` are equal.
 fn same_state(a: State, b: State) -> bool
     ensures { OnTrue result (a ≡ b) }
 {
@@ -135,7 +135,7 @@ fn same_state(a: State, b: State) -> bool
     }
 }
 
-/// Whether two execution contexts are equal, of which x0 is equal.
+/// Whether the execution contexts `a` and `b` are equal, of which x0 is equal.
 pub(crate) fn same_context(a: &EcState, b: &EcState) -> bool
     requires { slice_index a.now.regs.x 0 ≡ slice_index b.now.regs.x 0 }
     ensures { OnTrue result (a.now ≡ b.now) }

@@ -7,7 +7,7 @@ use crate::contexts::same_space;
 use nova_kernel::{Derivation, Kernel};
 use nova_range::Flags;
 
-/// Whether two derivations have the same parent, or none.
+/// Whether the parents `a` and `b` are the same, or both are none.
 fn same_parent(a: Option<u32>, b: Option<u32>) -> bool
     ensures { OnTrue result (a ≡ b) }
 {
@@ -20,7 +20,7 @@ fn same_parent(a: Option<u32>, b: Option<u32>) -> bool
     }
 }
 
-/// Whether two derivations are equal.
+/// Whether the derivations `a` and `b` are equal.
 fn same_derivation(a: &Derivation, b: &Derivation) -> bool
     ensures { OnTrue result (a.now ≡ b.now) }
 {
@@ -34,7 +34,7 @@ fn same_derivation(a: &Derivation, b: &Derivation) -> bool
         && same_parent(a.parent, b.parent)
 }
 
-/// Whether another kernel has this derivation, as the one of least id at or after `id`.
+/// Whether `kernel` has `derivation`, as that of least id at or after `id`.
 fn has_derivation(kernel: &Kernel, id: u32, derivation: &Derivation) -> bool
     ensures same { OnTrue result (derivation_from kernel.now.state id ≡ Some derivation.now) }
     ensures forest { IsForest kernel.now.state.delegations }
@@ -45,7 +45,7 @@ fn has_derivation(kernel: &Kernel, id: u32, derivation: &Derivation) -> bool
     }
 }
 
-/// Whether a kernel has no derivation at or after an id.
+/// Whether `kernel` has no derivation at or after `id`.
 fn has_none_from(kernel: &Kernel, id: u32) -> bool
     ensures none { OnTrue result (derivation_from kernel.now.state id ≡ None) }
     ensures forest { IsForest kernel.now.state.delegations }
@@ -56,7 +56,7 @@ fn has_none_from(kernel: &Kernel, id: u32) -> bool
     }
 }
 
-/// Whether the delegations of two kernels are equal.
+/// Whether the delegations of `a` and `b` are equal.
 pub(crate) fn same_delegations(a: &Kernel, b: &Kernel) -> bool
     ensures { OnTrue result (a.now.state.delegations.list ≡ b.now.state.delegations.list) }
 {

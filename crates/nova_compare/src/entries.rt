@@ -10,7 +10,7 @@ use crate::contexts::same_context;
 use nova_kernel::{EcKind, Kernel, Object, Transfer, Utcb};
 use std::alloc::Global;
 
-/// Whether two kernels have the same execution context of a number, of a processor that is there, or none.
+/// Whether `a` and `b` have the same execution context of number `n`, of a processor that is there, or none.
 #[tactic(auto, using(crate::proofs::Readings::zeros_at))]
 fn same_context_at(a: &Kernel, b: &Kernel, n: u32) -> bool
     requires first { AreZero a.now.state }
@@ -48,7 +48,7 @@ fn same_words(a: &Utcb, b: &Utcb) -> bool
     true
 }
 
-/// Whether two kernels have the same message words at a number, or none.
+/// Whether `a` and `b` have the same message words at number `n`, or none.
 fn same_words_at(a: &Kernel, b: &Kernel, n: u32) -> bool
     ensures { OnTrue result (entry (slice_get a.now.state.messages n) ≡ entry (slice_get b.now.state.messages n)) }
 {
@@ -61,7 +61,7 @@ fn same_words_at(a: &Kernel, b: &Kernel, n: u32) -> bool
     }
 }
 
-/// Whether two execution contexts are as far with the items that they give, or give none.
+/// Whether the transfers `a` and `b` are equal, or both are none.
 fn same_transfer(a: Option<Transfer>, b: Option<Transfer>) -> bool
     ensures { OnTrue result (a ≡ b) }
 {
@@ -78,7 +78,7 @@ fn same_transfer(a: Option<Transfer>, b: Option<Transfer>) -> bool
     }
 }
 
-/// Whether two counts are equal, or both are none.
+/// Whether the counts `a` and `b` are equal, or both are none.
 fn same_count(a: Option<u64>, b: Option<u64>) -> bool
     ensures { OnTrue result (a ≡ b) }
 {
@@ -91,7 +91,7 @@ fn same_count(a: Option<u64>, b: Option<u64>) -> bool
     }
 }
 
-/// Whether two numbers are equal, or both are none.
+/// Whether the numbers `a` and `b` are equal, or both are none.
 fn same_number(a: Option<u32>, b: Option<u32>) -> bool
     ensures { OnTrue result (a ≡ b) }
 {
@@ -104,7 +104,7 @@ fn same_number(a: Option<u32>, b: Option<u32>) -> bool
     }
 }
 
-/// Whether two lists of numbers are equal.
+/// Whether the lists of numbers `a` and `b` are equal.
 #[tactic(auto, using(crate::proofs::Places::same_when))]
 fn same_numbers(a: &[u32], b: &[u32]) -> bool
     ensures { OnTrue result (a.now ≡ b.now) }
@@ -112,7 +112,7 @@ fn same_numbers(a: &[u32], b: &[u32]) -> bool
     a == b
 }
 
-/// Whether the same wait at the semaphores of a number, in the same order. They are not seen to where memory is refused.
+/// Whether the same wait at the semaphores of number `n` of `a` and `b`, in the same order. They are not seen to where memory is refused.
 fn same_queue(alloc: Global, a: &Kernel, b: &Kernel, n: u32) -> bool
     ensures { OnTrue result ((semaphore a.now.state.semaphores n).waiting ≡ (semaphore b.now.state.semaphores n).waiting) }
 {
@@ -125,7 +125,7 @@ fn same_queue(alloc: Global, a: &Kernel, b: &Kernel, n: u32) -> bool
     }
 }
 
-/// Whether two kernels have the same semaphore of a number, or none.
+/// Whether `a` and `b` have the same semaphore of number `n`, or none.
 #[tactic(auto, using(crate::proofs::Readings::no_semaphores, crate::proofs::Readings::same_semaphores))]
 fn same_semaphore_at(alloc: Global, a: &Kernel, b: &Kernel, n: u32) -> bool
     ensures { OnTrue result (entry (slice_get a.now.state.semaphores n) ≡ entry (slice_get b.now.state.semaphores n)) }
@@ -139,7 +139,7 @@ fn same_semaphore_at(alloc: Global, a: &Kernel, b: &Kernel, n: u32) -> bool
     }
 }
 
-/// Whether the object of a number is a virtual CPU.
+/// Whether the object of number `n` is a virtual CPU.
 fn is_guest(kernel: &Kernel, n: u32) -> bool
     ensures test { result ≡ is_guest_in (slice_get kernel.now.state.objects n) }
     ensures there { result ≡ true → IsOf kernel.now.state.objects is_vcpu n }
@@ -150,7 +150,7 @@ fn is_guest(kernel: &Kernel, n: u32) -> bool
     }
 }
 
-/// Whether two kernels have the same stir count of the virtual CPU of a number, where it is one.
+/// Whether `a` and `b` have the same stir count of the virtual CPU of number `n`, where it is one.
 fn same_stirs_at(a: &Kernel, b: &Kernel, n: u32) -> bool
     ensures { OnTrue result (is_guest_in (slice_get a.now.state.objects n) ≡ true → stirs_at a.now.state n ≡ stirs_at b.now.state n) }
 {
@@ -163,7 +163,7 @@ fn same_stirs_at(a: &Kernel, b: &Kernel, n: u32) -> bool
     a.stir(n, 0).0 == b.stir(n, 0).0
 }
 
-/// Whether two kernels have the same at a number.
+/// Whether `a` and `b` have the same at number `n`.
 fn same_at(alloc: Global, a: &Kernel, b: &Kernel, n: u32) -> bool
     requires first { AreZero a.now.state }
     requires second { AreZero b.now.state }
@@ -179,7 +179,7 @@ fn same_at(alloc: Global, a: &Kernel, b: &Kernel, n: u32) -> bool
         && same_semaphore_at(alloc, a, b, n)
 }
 
-/// Whether two kernels have the same at each number below `count`.
+/// Whether `a` and `b` have the same at each number below `count`.
 pub(crate) fn same_entries(alloc: Global, a: &Kernel, b: &Kernel, count: u32) -> bool
     requires first { AreZero a.now.state }
     requires second { AreZero b.now.state }

@@ -3,7 +3,7 @@ ghost use Rattle.std.specs.Bool.{OnTrue};
 
 use nova_kernel::{Kernel, LogByte};
 
-/// Whether two lists of bytes are equal.
+/// Whether the lists of bytes `a` and `b` are equal.
 #[tactic(auto, using(crate::proofs::Places::same_when))]
 fn same_bytes(a: &[u8], b: &[u8]) -> bool
     ensures { OnTrue result (a.now ≡ b.now) }
@@ -11,7 +11,7 @@ fn same_bytes(a: &[u8], b: &[u8]) -> bool
     a == b
 }
 
-/// Whether a RAM frame of two kernels is equal.
+/// Whether the RAM frame `frame` of `a` and `b` is equal.
 fn same_frame(a: &Kernel, b: &Kernel, frame: u32) -> bool
     requires first { frame < length a.now.state.memory.ram }
     requires second { frame < length b.now.state.memory.ram }
@@ -20,7 +20,7 @@ fn same_frame(a: &Kernel, b: &Kernel, frame: u32) -> bool
     same_bytes(a.frame(frame), b.frame(frame))
 }
 
-/// Whether the RAM of two kernels is equal.
+/// Whether the RAM of `a` and `b` is equal.
 pub(crate) fn same_ram(a: &Kernel, b: &Kernel) -> bool
     ensures { OnTrue result (a.now.state.memory.ram ≡ b.now.state.memory.ram) }
 {
@@ -35,7 +35,7 @@ pub(crate) fn same_ram(a: &Kernel, b: &Kernel) -> bool
     true
 }
 
-/// Whether two bytes that were stored to consoles are equal.
+/// Whether `a` and `b`, bytes that were stored to consoles, are equal.
 fn same_byte(a: LogByte, b: LogByte) -> bool
     ensures { OnTrue result (a ≡ b) }
 {

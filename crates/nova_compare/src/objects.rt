@@ -3,7 +3,7 @@ ghost use Rattle.std.specs.Bool.{OnTrue};
 
 use nova_objects::{EcKind, Object};
 
-/// Whether two execution contexts are of one kind.
+/// Whether the kinds `a` and `b` of execution contexts are equal.
 fn same_kind(a: EcKind, b: EcKind) -> bool
     ensures { OnTrue result (a ≡ b) }
 {
@@ -14,7 +14,7 @@ fn same_kind(a: EcKind, b: EcKind) -> bool
     }
 }
 
-/// Whether an object is this execution context.
+/// Whether `object` is this execution context.
 fn is_context(object: &Object, pd: u32, cpu: u32, kind: EcKind, event: u32) -> bool
     ensures { OnTrue result (object.now ≡ Object.Ec pd cpu kind event) }
 {
@@ -31,7 +31,7 @@ fn is_context(object: &Object, pd: u32, cpu: u32, kind: EcKind, event: u32) -> b
     }
 }
 
-/// Whether an object is this scheduling context.
+/// Whether `object` is this scheduling context.
 fn is_schedule(object: &Object, ec: u32, cpu: u32, priority: u8, quantum: u32) -> bool
     ensures { OnTrue result (object.now ≡ Object.Sc ec cpu priority quantum) }
 {
@@ -48,7 +48,7 @@ fn is_schedule(object: &Object, ec: u32, cpu: u32, priority: u8, quantum: u32) -
     }
 }
 
-/// Whether an object is this portal.
+/// Whether `object` is this portal.
 fn is_portal(object: &Object, ec: u32, mtd: u32, ip: u32) -> bool
     ensures { OnTrue result (object.now ≡ Object.Pt ec mtd ip) }
 {
@@ -62,7 +62,7 @@ fn is_portal(object: &Object, ec: u32, mtd: u32, ip: u32) -> bool
     }
 }
 
-/// Whether two objects are equal.
+/// Whether `a` and `b` are equal.
 fn same_object(a: &Object, b: &Object) -> bool
     ensures { OnTrue result (a.now ≡ b.now) }
 {
@@ -85,7 +85,7 @@ fn same_object(a: &Object, b: &Object) -> bool
     }
 }
 
-/// Whether two lists of objects are equal.
+/// Whether the lists of objects `a` and `b` are equal.
 pub(crate) fn same_objects(a: &[Object], b: &[Object]) -> bool
     ensures { OnTrue result (a.now ≡ b.now) }
 {

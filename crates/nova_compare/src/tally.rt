@@ -25,14 +25,14 @@ impl Model for Tally {
     ghost view = { λ t. record { clocks = t.clocks.items; stamps = t.stamps.items; next_stamp = t.next_stamp; next_id = t.next_id } };
 }
 
-/// A count that rises. It is refused as memory is where it would be 2^64.
+/// `n` and one more. It is refused as memory is where it would be 2^64.
 fn one_more(n: u64) -> Result<u64, AllocError>
     ensures { IfOk result (λ m. m ≡ n + 1) }
 {
     n.checked_add(1).ok_or(AllocError)
 }
 
-/// Whether this was the last turn that is left of a quantum.
+/// Whether the turn was the last that is left of a quantum of which `left` turns were left.
 fn is_last(left: u32) -> bool
     ensures { result ≡ (left - 1 == 0) }
 {
@@ -40,7 +40,7 @@ fn is_last(left: u32) -> bool
 }
 
 impl Tally {
-    /// The same counts in memory of their own.
+    /// Copies the counts into memory of their own.
     pub(crate) fn copy(&self, alloc: Global) -> Result<Tally, AllocError>
         ensures { IfOk result (λ t. t ≡ self.now) }
     {
@@ -54,7 +54,7 @@ impl Tally {
         })
     }
 
-    /// Notes the object that a turn made, where it made one.
+    /// Notes `object`, which a turn made, where it made one.
     fn note_object(&mut self, object: Option<Object>) -> Result<(), AllocError>
         ensures { OnOk result (self.new ≡ with_object self.old object) }
     {
@@ -74,7 +74,7 @@ impl Tally {
         }
     }
 
-    /// Notes a child that was given, where the event of a turn is of this kind.
+    /// Notes a child that was given, where the event of a turn is of such a `kind`.
     fn note_child(&mut self, kind: EventKind) -> Result<(), AllocError>
         ensures { OnOk result (self.new ≡ with_child self.old kind) }
     {
@@ -87,7 +87,7 @@ impl Tally {
         }
     }
 
-    /// Gives a scheduling context the next stamp, where its quantum begins anew.
+    /// Gives the scheduling context `sc` the next stamp, where its quantum begins anew.
     #[tactic(auto, using(crate::proofs::Places::set_past))]
     fn renew(&mut self, sc: u32, is_last: bool) -> Result<(), AllocError>
         ensures { OnOk result (self.new ≡ renewed self.old sc is_last) }
@@ -103,7 +103,7 @@ impl Tally {
         Ok(())
     }
 
-    /// Notes that a scheduling context pays for a turn, of whose quantum so many turns are left.
+    /// Notes that the scheduling context `sc` pays for a turn, of whose quantum `left` turns are left.
     fn note_paid(&mut self, sc: u32, left: Option<u32>) -> Result<(), AllocError>
         ensures { OnOk result (self.new ≡ paid_with self.old sc left) }
     {
@@ -113,7 +113,7 @@ impl Tally {
         }
     }
 
-    /// Notes who pays for a turn: for what comes by itself nobody does.
+    /// Notes which scheduling context pays for a turn: for what comes by itself none does.
     fn note_charge(&mut self, sc: u32, left: Option<u32>, kind: EventKind) -> Result<(), AllocError>
         ensures { OnOk result (self.new ≡ paid self.old sc left kind) }
     {
@@ -125,7 +125,7 @@ impl Tally {
         }
     }
 
-    /// Notes that a processor's clock goes on.
+    /// Notes that the clock of the processor `cpu` goes on.
     #[tactic(auto, using(crate::proofs::Places::set_past))]
     fn tick(&mut self, cpu: u32) -> Result<(), AllocError>
         ensures { OnOk result (self.new ≡ ticked self.old cpu) }
@@ -136,7 +136,7 @@ impl Tally {
         Ok(())
     }
 
-    /// What is counted after a turn, by its event and the kernels before and after it.
+    /// What is counted after a turn, by `event` and the kernels before and after it, `from` and `next`.
     pub(crate) fn after(
         &self,
         alloc: Global,
@@ -170,7 +170,7 @@ fn first_stamps(alloc: Global, objects: &[Object]) -> Result<Vec<Option<u64>>, A
     Ok(stamps)
 }
 
-/// The clocks of processors that took no turn.
+/// The clocks of `cpus` processors that took no turn.
 fn first_clocks(alloc: Global, cpus: u32) -> Result<Vec<u64>, AllocError>
     ensures { IfOk result (λ v. v.items ≡ replicate cpus 0) }
 {
@@ -181,7 +181,7 @@ fn first_clocks(alloc: Global, cpus: u32) -> Result<Vec<u64>, AllocError>
     Ok(clocks)
 }
 
-/// What is counted of a kernel that begins.
+/// What is counted of `kernel` that begins.
 #[tactic(auto, using(crate::proofs::Next::boot_counts))]
 pub(crate) fn at_boot(alloc: Global, kernel: &Kernel) -> Result<Tally, AllocError>
     requires { IsBooted kernel.now.state }
@@ -199,7 +199,7 @@ pub(crate) fn at_boot(alloc: Global, kernel: &Kernel) -> Result<Tally, AllocErro
     })
 }
 
-/// Whether two lists of numbers are equal.
+/// Whether the lists of numbers `a` and `b` are equal.
 #[tactic(auto, using(crate::proofs::Places::same_when))]
 fn same_numbers(a: &[u64], b: &[u64]) -> bool
     ensures { OnTrue result (a.now ≡ b.now) }
@@ -207,7 +207,7 @@ fn same_numbers(a: &[u64], b: &[u64]) -> bool
     a == b
 }
 
-/// Whether two stamps are equal, or both are none.
+/// Whether the stamps `a` and `b` are equal, or both are none.
 fn same_stamp(a: Option<u64>, b: Option<u64>) -> bool
     ensures { OnTrue result (a ≡ b) }
 {
@@ -220,7 +220,7 @@ fn same_stamp(a: Option<u64>, b: Option<u64>) -> bool
     }
 }
 
-/// Whether two lists of stamps are equal.
+/// Whether the lists of stamps `a` and `b` are equal.
 fn same_stamps(a: &[Option<u64>], b: &[Option<u64>]) -> bool
     ensures { OnTrue result (a.now ≡ b.now) }
 {
@@ -236,7 +236,7 @@ fn same_stamps(a: &[Option<u64>], b: &[Option<u64>]) -> bool
 }
 
 impl Tally {
-    /// Whether the same is counted.
+    /// Whether the same is counted in `other`.
     pub(crate) fn is_same(&self, other: &Tally) -> bool
         ensures { OnTrue result (self.now ≡ other.now) }
     {

@@ -5,7 +5,7 @@ ghost use Rattle.law_sameness.specs.States.{IsAtRest};
 
 use nova_kernel::Kernel;
 
-/// Whether nothing is to come on a processor.
+/// Whether nothing is to come on the processor `cpu`.
 #[tactic(auto, using(crate::proofs::Readings::rests))]
 fn has_none(kernel: &Kernel, cpu: u32) -> bool
     ensures { OnTrue result (next_moment kernel.now.state.times cpu ≡ None) }
@@ -25,7 +25,7 @@ fn have_none(kernel: &Kernel) -> bool
     true
 }
 
-/// Whether a kernel has no source.
+/// Whether `kernel` has no source.
 #[tactic(auto, using(crate::proofs::Readings::no_source))]
 fn has_no_source(kernel: &Kernel) -> bool
     ensures { OnTrue result (kernel.now.state.times.alarms ≡ []) }
@@ -33,7 +33,7 @@ fn has_no_source(kernel: &Kernel) -> bool
     kernel.sources().len() == 0
 }
 
-/// Whether a kernel has no source, and nothing is to come on its processors.
+/// Whether `kernel` has no source, and nothing is to come on its processors.
 pub(crate) fn is_at_rest(kernel: &Kernel) -> bool
     ensures { OnTrue result (IsAtRest kernel.now.state) }
 {

@@ -1,12 +1,13 @@
-ghost use Rattle.std.specs.Prelude.{◌≡◌, ◌^◌, ◌<◌, IfOk};
+ghost use Rattle.std.specs.Prelude.{◌≡◌, ◌^◌, ◌<◌, IfOk, option_map};
 ghost use Rattle.std.specs.Bool.{OnTrue};
-ghost use Rattle.nova_compare.specs.Steps.{IsNext, IsStepped};
+ghost use Rattle.nova_compare.specs.Steps.{IsNext, IsStepped, IsTurned};
 ghost use Rattle.nova_compare.specs.Vertices.{IsBooted};
 
 use crate::derivations::same_delegations;
 use crate::entries::same_entries;
 use crate::memory::{same_log, same_ram};
 use crate::objects::same_objects;
+use crate::spares::{Spares, copied};
 use crate::tally::{Tally, at_boot};
 use crate::times::is_at_rest;
 use nova_kernel::{Event, Kernel, Turn};
@@ -16,7 +17,8 @@ use std::marker::Model;
 /// A vertex of the graph of states: a kernel in one of them, with what is counted of it, so that it can be compared with others.
 #[derive(Drop)]
 pub struct Vertex {
-    kernel: Kernel,
+    /// A kernel is large: it is moved as little as may be.
+    kernel: Box<Kernel>,
     tally: Tally,
     alloc: Global,
 }
@@ -28,33 +30,46 @@ impl Model for Vertex {
 
     ghost use Rattle.nova_compare.specs.Vertices.{IsVertex};
 
-    ghost view = { λ v. v.kernel.state };
+    ghost view = { λ v. v.kernel.value.state };
 
-    ghost invariant = { λ v. IsVertex v.kernel.state v.tally };
+    ghost invariant = { λ v. IsVertex v.kernel.value.state v.tally };
 }
 
-/// What is let go here is dropped apart from all else.
+/// Drops a value out of line, which keeps the caller's proof small.
 fn let_go<T: Drop>(_value: T) {}
 
+/// One turn of a processor, for which there is room.
+fn turned(kernel: &mut Kernel, cpu: u32) -> Result<Turn, AllocError>
+    requires cpu { cpu < kernel.old.state.cpus }
+    requires turns { kernel.old.state.turns < 2 ^ 31 }
+    ensures { IfOk result (IsTurned kernel.old.state cpu kernel.new.state) }
+{
+    kernel.reserve_log(1)?;
+    kernel.turn(cpu)
+}
+
 /// A turn of a processor on a copy: the kernel after it, and its event; none where the processor is idle.
-fn stepped(from: &Kernel, cpu: u32) -> Result<Option<(Kernel, Event)>, AllocError>
+fn stepped(
+    spares: &mut Spares,
+    from: &Kernel,
+    cpu: u32,
+) -> Result<Option<(Box<Kernel>, Event)>, AllocError>
     requires cpu { cpu < from.now.state.cpus }
     requires turns { from.now.state.turns < 2 ^ 31 }
-    ensures { IfOk result (λ o. IsStepped from.now.state cpu o) }
+    ensures { IfOk result (λ o. IsStepped from.now.state cpu (option_map (λ p. (p.0.value.state, p.1)) o)) }
 {
-    let mut next = from.copy()?;
-    next.reserve_log(1)?;
-    match next.turn(cpu)? {
+    let mut next = spares.copy_of(from)?;
+    match turned(&mut next, cpu)? {
         Turn::Stepped(event) => Ok(Some((next, event))),
         Turn::Idle => {
-            let_go(next);
+            spares.put(next);
             Ok(None)
         }
     }
 }
 
 impl Vertex {
-    /// The vertex of a kernel that has just booted.
+    /// The vertex of `kernel`, which has just booted.
     #[tactic(auto, using(crate::proofs::Next::begin_vertex))]
     pub fn begin(alloc: Global, kernel: &Kernel) -> Result<Vertex, AllocError>
         requires { IsBooted kernel.now.state }
@@ -64,7 +79,7 @@ impl Vertex {
         law_sameness::turns_count_by_what_is_read();
         law_sameness::x0_is_always_zero();
         let tally = at_boot(alloc, kernel)?;
-        let kernel = kernel.copy()?;
+        let kernel = copied(alloc, kernel)?;
         Ok(Vertex {
             kernel,
             tally,
@@ -72,12 +87,12 @@ impl Vertex {
         })
     }
 
-    /// The same state in memory of its own.
+    /// Copies the vertex into memory of its own.
     pub fn copy(&self) -> Result<Vertex, AllocError>
         ensures { IfOk result (λ v. v ≡ self.now) }
     {
         let tally = self.tally.copy(self.alloc)?;
-        let kernel = self.kernel.copy()?;
+        let kernel = copied(self.alloc, &self.kernel)?;
         Ok(Vertex {
             kernel,
             tally,
@@ -85,7 +100,12 @@ impl Vertex {
         })
     }
 
-    /// The kernel.
+    /// The kernel of the vertex, which is gone.
+    pub(crate) fn into_kernel(self) -> Box<Kernel> {
+        self.kernel
+    }
+
+    /// The kernel of the vertex.
     pub fn kernel(&self) -> &Kernel
         ensures { result.now.state ≡ self.now }
     {
@@ -106,9 +126,10 @@ impl Vertex {
         self.kernel.turns()
     }
 
-    /// The vertex after a turn of a processor; none where the processor is idle. Fewer than 2^31 turns were taken before.
+    /// The vertex after a turn of the processor `cpu`, in a kernel of `spares` where there is one; none where the processor is idle. Fewer than
+    /// 2^31 turns were taken before.
     #[tactic(auto, using(crate::proofs::Next::next_vertex, crate::proofs::Next::next_succeeds))]
-    pub fn next(&self, cpu: u32) -> Result<Option<Vertex>, AllocError>
+    pub fn next(&self, cpu: u32, spares: &mut Spares) -> Result<Option<Vertex>, AllocError>
         requires cpu { cpu < self.now.cpus }
         requires turns { self.now.turns < 2 ^ 31 }
         ensures { IfOk result (IsNext self.now cpu) }
@@ -116,7 +137,7 @@ impl Vertex {
         law_turns::turns_keep_what_they_find();
         law_sameness::turns_count_by_what_is_read();
         law_sameness::x0_is_always_zero();
-        let Some((kernel, event)) = stepped(&self.kernel, cpu)? else {
+        let Some((kernel, event)) = stepped(spares, &self.kernel, cpu)? else {
             return Ok(None);
         };
         match self.tally.after(self.alloc, &self.kernel, &event, &kernel) {
@@ -132,14 +153,14 @@ impl Vertex {
         }
     }
 
-    /// Whether two vertices are seen to be in one state. They are not seen to be where there are sources, where a processor has
+    /// Whether the vertex and `other` are seen to be in the same state. They are not seen to be where there are sources, where a processor has
     /// something to come, and where memory is refused.
     pub fn is_same(&self, other: &Vertex) -> bool
         ensures { OnTrue result (self.now ≡ other.now) }
     {
         law_sameness::states_that_are_read_and_counted_alike_are_the_same();
-        let a = &self.kernel;
-        let b = &other.kernel;
+        let a = self.kernel();
+        let b = other.kernel();
         let objects = a.objects();
         a.turns() == b.turns()
             && self.tally.is_same(&other.tally)

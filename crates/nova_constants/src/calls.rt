@@ -39,7 +39,7 @@ fn name_of(call: Result<Call, Status>) -> &'static str {
     }
 }
 
-/// A number as that which four calls are read by.
+/// `number` as that which four calls are read by.
 fn read_as(number: u32) -> [Row; 4] {
     [
         (

@@ -30,7 +30,7 @@ pub(crate) fn reasons() -> [Row; 9] {
     ]
 }
 
-/// The name of the selector at which the root holds an object, which is the object's number, or the first that is free for a source.
+/// The name of the selector at which the root holds `object`, which is the object's number, or the first that is free for a source.
 fn name_of(object: Option<&Object>) -> &'static str {
     match object {
         Some(Object::Pd) => "NOVA_OWN_PD",
@@ -41,7 +41,7 @@ fn name_of(object: Option<&Object>) -> &'static str {
     }
 }
 
-/// The event base of a thread among objects.
+/// The event base of the thread `number` among `objects`.
 fn event_base(objects: &Objects, number: u32) -> u32 {
     match objects.get(number) {
         Some(Object::Ec { event, .. }) => *event,

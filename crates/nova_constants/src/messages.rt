@@ -15,7 +15,7 @@ const PC: u32 = 1004;
 
 const X1: u32 = 1005;
 
-/// The first word that has a value, or 128 where none has.
+/// The first word that has `value`, or 128 where none has.
 fn place_of(message: &Utcb, value: u32) -> u32 {
     for place in 0..128 {
         if message.word(place) == value {
@@ -43,14 +43,14 @@ fn exited() -> Utcb {
     message
 }
 
-/// Message words of which word 0 has a value.
+/// Message words of which word 0 is `word`.
 fn counted(word: u32) -> Utcb {
     let mut message = Utcb::new();
     message.set(0, word);
     message
 }
 
-/// The greatest number of words that a message may count, each in so many bits of word 0 up.
+/// The greatest number of words that a message may count in bits `at` of word 0 on.
 fn most_counted(at: u32) -> u32
     requires { at < 24 }
 {

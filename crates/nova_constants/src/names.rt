@@ -42,7 +42,7 @@ pub(crate) fn statuses() -> [Row; 9] {
     ]
 }
 
-/// The bits of rights.
+/// The bits of `rights`.
 fn bits(rights: Rights) -> u32 {
     u32::from(rights.bits())
 }

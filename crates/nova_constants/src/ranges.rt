@@ -7,7 +7,7 @@ const PAGE: u32 = 1;
 
 const ALL_MEMORY: u32 = 1 + (20 << 7);
 
-/// The name of what a word is read as: a type of range words, or the field whose least bit is the one that it has beside that.
+/// The name of what `word` is read as: a type of range words, or the field whose least bit it has beside that.
 fn name_of(word: u32) -> &'static str {
     match read_word(word) {
         Ok(None) => "NOVA_NULL",

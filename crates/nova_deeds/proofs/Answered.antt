@@ -1,4 +1,4 @@
--- A call or an exit that is sent, and a reply that completes, are the two ways between a handler that is parked and one that serves its caller.
+-- A call or an exit that is sent, and a reply that completes, are the two ways between a handler that is parked and a handler that serves its caller.
 use Rattle.std.proofs.Common.{◌≡◌, ℕ, List, refl, ap, sym, ◌∙◌, inl, inr}
 use Rattle.std.specs.Prelude.{Bool, true, false, ◌≢◌, if◌then◌else◌, Option, Some, None}
 use Rattle.nova_model.specs.Calls.{is_parked}

@@ -73,7 +73,7 @@ pub skipped-within : (turns cursor : ℕ) (o : Option Transfer) → IsGivenWithi
 skipped-within turns cursor (Some t) h = omega arith
 skipped-within turns cursor None h = omega arith
 
--- the present item stays one that a message may have
+-- the present item stays such as a message may have
 
 pub item-more : (n : ℕ) (xs : List (Option Transfer)) (o : Option Transfer) → IsAtItem o → IsAtItem (entry (slice_get xs n)) → IsAtItem (entry (slice_get (xs ++ o ∷ []) n))
 item-more zero [] o new old = new

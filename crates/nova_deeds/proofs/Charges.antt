@@ -1,4 +1,4 @@
--- A turn that is charged in the queues is one that is charged in the state.
+-- A turn that is charged in the queues is charged in the state.
 use Rattle.std.proofs.Common.{◌≡◌, ℕ, ◌==◌, List, refl, ap, ap₂, sym, ◌∙◌, subst, arith, IsSome}
 use Rattle.std.specs.Prelude.{Bool, true, false, ◌≢◌, Option, Some, None, slice_get, slice_set}
 use Rattle.std.proofs.lemmas.List.{length-set}
@@ -128,7 +128,7 @@ paid_shown k s after count sc queued budgets there is = by_entry (queued_at s sc
     by_entry (Some e) at some =
         by_budget e at ∙ ap (paid_by k sc (quantum_in (slice_get k.objects sc))) (sym (held_by k s sc e queued at).budget)
 
--- one that is there is charged
+-- a scheduling context that is there is charged
 pub charged_there : (k : KernelState) (s after : Schedule) (cpu sc : ℕ) → AreQueued k s → IsSome (queued_at s sc) → after ≡ charged_schedule s sc → AreQueued (turn.charged k cpu sc) after
 charged_there k s after cpu sc queued there is =
     subst (λ (x : Schedule). AreQueued (turn.charged k cpu sc) x) (sym is) (by_entry (queued_at s sc) refl there)

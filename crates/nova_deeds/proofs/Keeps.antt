@@ -114,7 +114,7 @@ with_message-keeps k new ec m h = tables-keep k new new.memory (slice_set new.me
 pub semaphores-keeps : (k new : KernelState) (all : Semaphores) → KeepsCounts k new → length all ≡ length new.semaphores → KeepsCounts k (record new { semaphores = all })
 semaphores-keeps k new all h long = tables-keep k new new.memory new.messages new.identifiers all h refl refl long
 
--- deadlines, and what else stands in times, are looked at by nobody here
+-- deadlines, and what else stands in times, are not looked at here
 
 pub times-keep : (k new : KernelState) (times : Times) → KeepsCounts k new → length times.deadlines ≡ length new.times.deadlines → KeepsCounts k (record new { times = times })
 times-keep k new times h long = record {
@@ -221,7 +221,7 @@ named-keeps k ec pt identifier x =
     tables-keep k (with_context k ec x) k.memory k.messages (slice_set k.identifiers pt (Some identifier)) k.semaphores (changed-keeps k ec x)
     refl (length-set k.identifiers pt (Some identifier)) refl
 
--- a part of an item: at most one derivation more, and the transfer of the one who gives changes
+-- a part of an item: at most one derivation more, and the transfer of the giver changes
 
 part-keeps : (k new : KernelState) (ec : ℕ) (t : Transfer) → KeepsCounts k new → new.transfers ≡ k.transfers →
     ((turns : ℕ) → IsGivenWithin turns (transfer_at k ec) → IsGivenWithin (turns + 1) (Some t)) → (IsAtItem (transfer_at k ec) → t.item < 62) →

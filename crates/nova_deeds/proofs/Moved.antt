@@ -1,4 +1,4 @@
--- After a deed that moves somebody the queues are right but for the marks of scheduling contexts whose ways come to that one.
+-- After a deed that moves a context the queues are right but for the marks of scheduling contexts whose ways come to that context.
 use Rattle.std.proofs.Common.{◌≡◌, ℕ, refl, ap, sym, ◌∙◌, subst}
 use Rattle.std.specs.Prelude.{Option, Some, None, option_and_then}
 use Rattle.nova_range.specs.declared.status.Status.TheVariants.{Success}
@@ -20,7 +20,7 @@ use Rattle.nova_deeds.proofs.Moves.{MayMove, answered_queued, stale_after}
 abbrev AreOthersQueued : ℕ → KernelState → Schedule → Type 0
 AreOthersQueued e k s = AreQueuedWhere (Avoids k.contexts e) k s
 
--- who does an up acts before and after, so that whom it wakes alone is moved
+-- a context that does an up acts before and after, so that only the context that it wakes is moved
 upped_others : (k : KernelState) (s : Schedule) (ec sm w : ℕ) → MayMove k ec → AreQueued k s → AreOthersQueued w (done k ec (Ups sm (Some w))) s
 upped_others k s ec sm w may queued =
     let mid = with_ec k.contexts ec (answered (context k ec) Success None) in
@@ -29,7 +29,7 @@ upped_others k s ec sm w may queued =
     others_queued k (done k ec (Ups sm (Some w))) s w queued refl refl
     (λ x cpu at avoids. avoiding_leads mid w x (answered (ec_of mid w) Success None) (sound.edges may.edges) avoids ∙ first.contexts.same x cpu at refl)
 
--- any other deed changes who does it
+-- any other deed changes the context that does it
 own_others : (k : KernelState) (s : Schedule) (ec : ℕ) (d : Deed) → MayMove k ec → AreQueued k s → (done k ec d).contexts ≡ with_ec k.contexts ec (actor_after (context k ec) d) →
     (done k ec d).objects ≡ k.objects → (done k ec d).budgets ≡ k.budgets → AreOthersQueued ec (done k ec d) s
 own_others k s ec d may queued contexts objects budgets = one_moved k (done k ec d) s ec (actor_after (context k ec) d) queued may.edges contexts objects budgets
@@ -53,7 +53,7 @@ done_others k s ec e (Blocks sm until) may queued is =
     let same : ec ≡ e = cc in subst (λ (n : ℕ). AreOthersQueued n (done k ec (Blocks sm until)) s) same (own_others k s ec (Blocks sm until) may queued refl refl refl)
 done_others k s ec e other may queued is = absurd cc
 
--- in other words: what is left to be marked when a deed is done, by whom it moved
+-- in other words: what is left to be marked when a deed is done, by the context that it moved
 pub queued_moved : (k new : KernelState) (s after : Schedule) (ec : ℕ) (d : Deed) → MayMove k ec → DeedFits k ec d → AreQueued k s → new ≡ done k ec d → after ≡ schedule_after k ec s d →
     AreQueuedAfter (moved_by ec d) new after
 queued_moved k new s after ec d may fits queued is marks = by_moved (moved_by ec d) refl

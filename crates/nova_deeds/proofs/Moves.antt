@@ -1,4 +1,4 @@
--- After a deed the queues are right but for the marks of the processor on which somebody moved: one row a variant.
+-- After a deed the queues are right but for the marks of the processor on which a context moved: one row a variant.
 use Rattle.std.proofs.Common.{◌≡◌, ℕ, ◌<◌, length, refl, ap, sym, ◌∙◌, subst, arith, IsSome}
 use Rattle.std.specs.Prelude.{Bool, true, false, List, Option, Some, None, Ok, if◌then◌else◌, option_and_then, slice_get}
 use Rattle.std.proofs.lemmas.List.{length-set}
@@ -68,7 +68,7 @@ home_along stale cpus cs ds new.Pd kept home = tt
 home_along stale cpus cs ds (new.Pt ec mtd ip) kept home = tt
 home_along stale cpus cs ds (new.Sm count) kept home = tt
 
--- who does a deed is there and acts, and what it finds is sound
+-- a context that does a deed is there and acts, and what it finds is sound
 pub record MayMove (k : KernelState) (ec : ℕ) : Type 0 where
   pub there : IsSome (context_at k ec)
   pub awake : acts k.contexts ec ≡ true
@@ -111,7 +111,7 @@ placed_along k ec y new.Pd placed = tt
 placed_along k ec y (new.Pt its mtd ip) placed = tt
 placed_along k ec y (new.Sm count) placed = tt
 
--- one that acts before and after its deed moves no turns
+-- a context that acts before and after its deed moves no turns
 going : (k : KernelState) (ec : ℕ) (d : Deed) → MayMove k ec → goes_on d ≡ true → (actor_after (context k ec) d).cpu ≡ (context k ec).cpu →
     KeepsQueued None k (with_context k ec (actor_after (context k ec) d))
 going k ec d may goes cpu = record {
@@ -243,7 +243,7 @@ finished_leaves k s ec item end words Taken may sequel queued =
 finished_leaves k s ec item end None (Replied caller m) may sequel queued = completed_leaves k _ s ec caller m _ may sequel queued refl refl refl refl refl
 finished_leaves k s ec item end (Some w) (Replied caller m) may sequel queued = completed_leaves k _ s ec caller m _ may sequel queued refl refl refl refl refl
 
--- an up and a down leave who acts so: all turns stay, but for those of whom an up wakes
+-- an up and a down leave the context that acts so: all turns stay, but for those of the context that an up wakes
 pub answered_queued : (k : KernelState) (ec : ℕ) → MayMove k ec → KeepsQueued None k (with_context k ec (answered (context k ec) Success None))
 answered_queued k ec may = going k ec (Downs 0) may refl refl
 

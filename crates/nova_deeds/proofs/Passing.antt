@@ -1,4 +1,5 @@
--- Turns in which no execution context acts: what is counted stays bounded, and the queues are right but for marks in which who goes on may act.
+-- Turns in which no execution context acts: what is counted stays bounded, and the queues are right but for marks in which the context that goes on
+-- may act.
 use Rattle.std.proofs.Common.{◌≡◌, ℕ, ◌+◌, ◌^◌, ◌<◌, List, [], ◌∷◌, length, refl, ap, sym, ◌∙◌, subst, arith, IsSome}
 use Rattle.std.specs.Prelude.{Option, Some, None, IfSome, Ok, Err, Result, slice_get, slice_set}
 use Rattle.std.proofs.lemmas.List.{length-set}
@@ -107,7 +108,7 @@ after_due k cpu what is = ap (state_after k) (turn_due k cpu what is) ∙ due_ke
 pub queued_counted : (k : KernelState) (cpu : ℕ) (s : Schedule) → AreQueued k s → AreQueued (counted k cpu) s
 queued_counted k cpu s q = record { cpus = q.cpus; numbers = q.numbers; stamp = q.stamp; entries = q.entries; homes = q.homes; owners = q.owners }
 
--- who goes on may act from then on
+-- the context that goes on may act from then on
 pub queued_ended : (k new : KernelState) (ec : ℕ) (status : Status) (s : Schedule) → AreQueued k s → AreEdges k.contexts → IsSome (context_at k ec) →
     new.contexts ≡ with_ec k.contexts ec (answered (context k ec) status None) → new.objects ≡ k.objects → new.budgets ≡ k.budgets → new.next_stamp ≡ k.next_stamp → new.cpus ≡ k.cpus →
     AreQueuedBy ec ec new s
@@ -123,7 +124,7 @@ queued_ended k new ec status s queued edges there contexts objects budgets stamp
 pub queued_beside : (k new : KernelState) (s : Schedule) → AreQueued k s → new.contexts ≡ k.contexts → new.objects ≡ k.objects → new.budgets ≡ k.budgets → new.next_stamp ≡ k.next_stamp → new.cpus ≡ k.cpus → AreQueued new s
 queued_beside k new s queued contexts objects budgets stamp cpus = queued_kept None k new s queued (aside None k k new (same_state k) contexts objects budgets stamp cpus)
 
--- after a wake, by who goes on
+-- after a wake, by the context that goes on
 pub queued_woken : (k : KernelState) (times : Times) (all : List (Option Semaphore)) (whom : Option ℕ) (s : Schedule) → AreQueued k s → AreEdges k.contexts → IfSome whom (λ ec. IsSome (context_at k ec)) →
     AreQueuedAfter whom (woken_in (record k { semaphores = all; times = times }) whom) s
 queued_woken k times all None s queued edges there = queued_beside k (record k { semaphores = all; times = times }) s queued refl refl refl refl refl
@@ -133,7 +134,7 @@ queued_woken k times all (Some ec) s queued edges there =
 pub queued_expired : (k : KernelState) (ec sm : ℕ) (s : Schedule) → AreQueued k s → AreEdges k.contexts → IsSome (context_at k ec) → AreQueuedBy ec ec (expires k ec sm) s
 queued_expired k ec sm s queued edges there = queued_ended k (expires k ec sm) ec Timeout s queued edges there refl refl refl refl refl
 
--- who is woken is there
+-- the woken context is there
 pub whom_there : (k : KernelState) (sm : ℕ) → AreBlocked k.contexts k.semaphores → IfSome (whom_of (woken (semaphore k.semaphores sm))) (λ ec. IsSome (context_at k ec))
 whom_there k sm blocked = by_up (woken (semaphore k.semaphores sm)) refl
   where

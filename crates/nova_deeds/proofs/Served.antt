@@ -1,4 +1,4 @@
--- Who is called, served or woken is there, so that message words have an entry for them; and who acts waits at no semaphore.
+-- A context that is called, served or woken is there, so that message words have an entry for it; and a context that acts waits at no semaphore.
 use Rattle.std.proofs.Common.{◌≡◌, ℕ, zero, suc, ◌<◌, List, [], ◌∷◌, length, arith, IsSome, refl, ap, sym, ◌∙◌}
 use Rattle.std.specs.Prelude.{Bool, true, false, not, ◌||◌, ◌==◌, eqb, if◌then◌else◌, Option, Some, None, Result, option_and_then, option_map}
 use Rattle.std.specs.declared.result.Result.TheVariants.{Ok, Err}
@@ -21,7 +21,7 @@ use Rattle.nova_choice.proofs.Waits.{there_at, there_by_cpu}
 
 -- ON ONE PROCESSOR
 
--- the processor of one who is called
+-- the processor of a handler that is called
 same_by : (a b : Option ℕ) → is_same_cpu a b ≡ true → a ≡ b
 same_by (Some a) (Some b) same = ap Some (let h : a ≡ b = grind (arith, same) in h)
 same_by None b same = absurd cc
@@ -41,7 +41,7 @@ admitted_near cs caller handler is = same_by (cpu_in cs handler) (cpu_in cs call
 
 -- SERVED
 
--- one with a caller
+-- a context with a caller
 pub serves_there : (cs : Contexts) (e c : ℕ) (mark : Mark) → caller_in cs e ≡ Some (c, mark) → IsSome (ec_in cs e)
 serves_there cs e c mark is = by_place (ec_in cs e) is
   where
@@ -99,7 +99,7 @@ state_there cs e s is = by_place (ec_in cs e) is
 pub woken_there : (cs : Contexts) (all : Semaphores) (sm w : ℕ) → AreBlocked cs all → woken (semaphore all sm) ≡ Ok (Some w) → IsSome (ec_in cs w)
 woken_there cs all sm w blocked is = state_there cs w (Blocked sm) (blocked.blocked sm w (woken_has (semaphore all sm).count w (semaphore all sm).waiting is))
 
--- one that waits doesn't act
+-- a context that waits doesn't act
 pub acts_free : (cs : Contexts) (all : Semaphores) (ec : ℕ) → AreBlocked cs all → acts cs ec ≡ true → IsFree all ec
 acts_free cs all ec blocked awake sm = by_test (waits all sm ec) refl
   where

@@ -14,7 +14,7 @@ use Rattle.law_forest.proofs.Allowed.{deed_free}
 use Rattle.nova_deeds.specs.Acts.{outcome_of, is_executing}
 use Rattle.nova_choice.specs.Schedules.{is_ready}
 
--- one that raises leaves all as it was
+-- an instruction that raises leaves all as it was
 raises : (k : KernelState) (ec : ℕ) (o : Once) (reason q0 q1 : ℕ) → outcome_of o ≡ Raise reason q0 q1 → (o ≡ Raised reason q0 q1) × (stepped k ec o ≡ k)
 raises k ec (Raised reason' q0' q1') reason q0 q1 is = (cc, refl)
 raises k ec (Went regs store) reason q0 q1 is = absurd (cc)
@@ -30,7 +30,7 @@ act-does k mid new ec d same h = subst (λ (s : KernelState). new ≡ done s ec 
 pub takes-free : (k : KernelState) (ec : ℕ) (d : Deed) → d ≡ deed k ec → TakesFree k (pd_of k ec) d
 takes-free k ec d is = subst (TakesFree k (pd_of k ec)) (sym is) (deed_free k ec)
 
--- of whom an instruction is next, and of whom a recall comes before it
+-- of a context that does an instruction next, and of a context whose recall comes before it
 pub executing-deed : (k : KernelState) (ec : ℕ) → is_executing (context k ec) ≡ true → deed k ec ≡ stepping k ec (instruction k ec)
 unfolding deed
 executing-deed k ec h = by_state (context k ec).state h

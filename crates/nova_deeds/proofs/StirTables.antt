@@ -94,7 +94,7 @@ risen_entry stirs n (suc i) (count ∷ counts) =
     risen_entry stirs (n + 1) i counts
     ∙ ap (λ (m : ℕ). option_map (risen (stirs m)) (entry (slice_get counts i))) (let e : n + 1 + i ≡ n + suc i = omega arith in e)
 
--- one that is written anew
+-- a count that is written anew
 set_risen : (n g m count : ℕ) (counts : List (Option ℕ)) → m ≡ n + g → entry (slice_get counts g) ≡ Some count →
     slice_set counts g (Some (count + 1)) ≡ risen_from (λ k. k == m) n counts
 set_risen n g m count [] is there = absurd cc
@@ -158,7 +158,7 @@ but_none stirs counts i all =
     dropped (n ∷ ns) zero h = absurd (omega (arith, h))
     dropped (n ∷ ns) (suc j) h = dropped ns j (omega (arith, h))
 
--- the next one has not risen yet
+-- the next count has not risen yet
 pub next_entry : (stirs : ℕ → Bool) (counts : List (Option ℕ)) (m : ℕ) (rest : List ℕ) →
     entry (slice_get (risen_from (but stirs (m ∷ rest)) 0 counts) m) ≡ entry (slice_get counts m)
 next_entry stirs counts m rest =
@@ -196,7 +196,7 @@ next_risen stirs counts m rest stirred alone =
         twice (stirs k && not ((m == k) || is_in k rest)) (k == m) (stirs k && not (is_in k rest)) (rw (same, e) (none_true (stirs k && not (is_in k rest))))
         (rw (same, e) (or_false (stirs k && not (is_in k rest)))) o
 
--- and one for whom it is no input stays
+-- and the count of one for which it is no input stays
 pub next_calm : (stirs : ℕ → Bool) (counts : List (Option ℕ)) (m : ℕ) (rest : List ℕ) → stirs m ≡ false →
     risen_from (but stirs (m ∷ rest)) 0 counts ≡ risen_from (but stirs rest) 0 counts
 next_calm stirs counts m rest calm = risen_same (but stirs (m ∷ rest)) (but stirs rest) 0 counts (λ k there. by_test k (m == k) refl)
@@ -208,7 +208,7 @@ next_calm stirs counts m rest calm = risen_same (but stirs (m ∷ rest)) (but st
         rw s refl
     by_test k false same = rw same refl
 
--- the one whose turn it is, of all numbers
+-- the count whose turn it is, of all numbers
 pub next_count : (stirs : ℕ → Bool) (counts now : List (Option ℕ)) (ns : List ℕ) (i most : ℕ) → ns ≡ numbers_from 0 counts → i < length ns →
     now ≡ risen_from (but stirs (drop i (numbers_from 0 counts))) 0 counts → 0 < most →
     IfSome (entry (slice_get counts (slice_index_or ns i 0))) (λ n. n < most) → count_in (entry (slice_get now (slice_index_or ns i 0))) < most

@@ -1,4 +1,4 @@
--- Whom a deed stirs, by what is left after it, and by what was before: the same.
+-- The virtual CPUs that a deed stirs, by what is left after it, and by what was before: the same.
 use Rattle.std.proofs.Common.{◌≡◌, ℕ, zero, suc, ◌+◌, ◌==◌, List, [], ◌∷◌, length, refl, ap, ap₂, ◌∙◌, arith}
 use Rattle.std.specs.Prelude.{Bool, true, false, ◌&&◌, nat_lt, if◌then◌else◌, Option, Some, None, is_some, option_map, option_and_then, slice_get}
 use Rattle.rv_model.specs.Step.{Once, Raised, Went, Store}
@@ -91,7 +91,7 @@ other k w ec g (Gives child cursor) written = outside (is_memory_of (pd_of k g) 
 other k w ec g (Removes leaf) written = outside (is_memory_of (pd_of k g) leaf) _ refl
 other k w ec g d written = refl
 
--- who is stirred, after the deed as before it
+-- the virtual CPU that is stirred, after the deed as before it
 same : (k : KernelState) (w : Option ℕ) (ec : ℕ) (d : Deed) (g : ℕ) → IsWritten k ec w d → is_stirring (done k ec d) w ec d g ≡ is_stirred k ec d g
 unfolding input_of
 same k w ec d g written = by_test (ec == g)

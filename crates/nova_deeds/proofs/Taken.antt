@@ -31,7 +31,7 @@ use Rattle.nova_choice.specs.declared.choice.Chosen.{Chosen}
 use Rattle.nova_choice.proofs.Choosing.{told_by, turn_told}
 use Rattle.nova_choice.proofs.Nexts.{chosen_acts}
 
--- who acts in the turns of a scheduling context does act
+-- the context that acts in the turns of a scheduling context does act
 actor_acts : (cs : Contexts) (o : Option Object) (actor : ℕ) → actor_of cs o ≡ Some actor → acts cs actor ≡ true
 actor_acts cs (Some (Sc ec cpu priority quantum)) actor h = by_test (leads cs ec) refl h
   where
@@ -50,7 +50,7 @@ told_acts k cpu chosen h =
     actor_acts k.contexts (slice_get k.objects told.candidate.sc) chosen.actor
     (chosen_acts k cpu told.candidate told.is ∙ ap (λ (c : Chosen). Some c.actor) told.told)
 
--- the state after it, where who acts does its deed, what that stirs is counted, and the scheduling context pays
+-- the state after it, where the context that acts does its deed, what that stirs is counted, and the scheduling context pays
 pub turn_taken : (k mid : KernelState) (cpu : ℕ) (chosen : Chosen) (d : Deed) → due_on k.times cpu ≡ None → Some chosen ≡ option_map chosen_of (choice k cpu) → d ≡ deed k chosen.actor →
     mid ≡ stirred k chosen.actor d (done k chosen.actor d) → after k cpu ≡ charged mid cpu chosen.sc
 turn_taken k mid cpu chosen d none h is does =

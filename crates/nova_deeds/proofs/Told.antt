@@ -1,4 +1,4 @@
--- What a handler gives goes to its caller, who is there.
+-- What a handler gives goes to its caller, which is there.
 use Rattle.std.proofs.Common.{◌≡◌, ℕ, ◌≤◌, refl, ap, sym, ◌∙◌, subst}
 use Rattle.std.specs.Prelude.{Option, Some, None, IfSome, IsSome, option_and_then, option_map}
 use Rattle.nova_model.specs.Deliveries.{delivery_between, told_by}
@@ -11,18 +11,18 @@ use Rattle.nova_model.specs.declared.transfer.Delivery.{Delivery}
 use Rattle.nova_model.specs.declared.transfer.Sequel.TheVariants.{Replied}
 use Rattle.nova_deeds.specs.Acts.{IsGivenBy}
 
--- the caller of one that is there
+-- the caller of a context that is there
 caller_kept : (cs : Contexts) (ec : ℕ) (o : Option EcState) (c : Option (ℕ × Mark)) → ec_in cs ec ≡ o → IsSome o → (context_in o).caller ≡ c → caller_in cs ec ≡ c
 caller_kept cs ec None c is there h = absurd (cc)
 caller_kept cs ec (Some x) c is there h = ap (option_and_then (λ (x : EcState). x.caller)) is ∙ h
 
--- one on the processor of one that is there
+-- a context on the processor of a context that is there
 there_too : (a b : Option EcState) → option_map (λ (x : EcState). x.cpu) a ≡ option_map (λ (x : EcState). x.cpu) b → IsSome b → IsSome a
 there_too (Some x) b same there = refl
 there_too None None same there = there
 there_too None (Some y) same there = absurd (cc)
 
--- who is told of the items is there
+-- the context that is told of the items is there
 told_there : (k : KernelState) (caller : ℕ) (mark : Mark) → IsSome (context_at k caller) → IfSome (told_by caller mark) (λ to. IsSome (context_at k to))
 told_there k caller Call there = there
 told_there k caller Exit there = tt

@@ -30,22 +30,22 @@ abbrev pub outcome_of : Once → Outcome
 outcome_of (Raised reason q0 q1) = Raise reason q0 q1
 outcome_of (Went regs store) = Next
 
--- an instruction is next of one that is ready, unless a recall is asked for
+-- an instruction is next of a ready context, unless a recall is asked for
 abbrev pub is_executing : EcState → Bool
 is_executing x = is_ready x.state && not x.recall
 
--- the words of an item that ended are written to one who is there
+-- the words of an item that ended are written to a context that is there
 abbrev pub IsToldThere : KernelState → Option ItemWords → Type 0
 IsToldThere k None = Unit {0}
 IsToldThere k (Some w) = IsSome (context_at k w.ec)
 
--- a further item is one that a message may have; a reply completes to the caller that is kept
+-- a further item is such as a message may have; a reply completes to the caller that is kept
 abbrev pub IsSequel : KernelState → ℕ → ℕ → Sequel → Type 0
 IsSequel k ec item Item = item + 1 < 62
 IsSequel k ec item (Replied caller mark) = caller_in k.contexts ec ≡ Some (caller, mark)
 IsSequel k ec item other = Unit {0}
 
--- what an execution context gives, of which this item is present: at most 62 items, to one who is there
+-- what an execution context gives, of which this item is present: at most 62 items, to a context that is there
 pub record IsGivenBy (k : KernelState) (ec item : ℕ) (v : Delivery) : Type 0 where
   pub items : v.items ≤ 62
   pub told : IfSome v.told (λ to. IsSome (context_at k to))

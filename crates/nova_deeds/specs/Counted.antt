@@ -33,7 +33,7 @@ abbrev pub IsGivenWithin : ℕ → Option Transfer → Type 0
 IsGivenWithin turns (Some t) = t.children ≤ turns
 IsGivenWithin turns None = 0 ≤ turns
 
--- the present item of an execution context is one that a message may have
+-- the present item of an execution context is such as a message may have
 abbrev pub IsAtItem : Option Transfer → Type 0
 IsAtItem (Some t) = t.item < 62
 IsAtItem None = Unit {0}

@@ -2,7 +2,7 @@
 use Rattle.std.specs.Prelude.{ℕ, ◌+◌, ◌==◌, Bool, true, false, List, [], ◌∷◌, slice_get, slice_set, Option, Some, None, option_map}
 use Rattle.nova_model.specs.State.{entry}
 
--- an entry for each object, and room for so many more
+-- an entry for each object, and room for `spare` more
 pub record StirTable : Type 0 where
   pub counts : List (Option ℕ)
   pub spare : ℕ
@@ -31,7 +31,7 @@ risen_from stirs g (count ∷ counts) = option_map (risen (stirs g)) count ∷ r
 abbrev pub risen_at : ℕ → List (Option ℕ) → List (Option ℕ)
 risen_at g counts = risen_from (λ n. n == g) 0 counts
 
--- the count of one number rises by so many
+-- the count of `g` rises by `n`
 abbrev pub risen_by_in : ℕ → ℕ → List (Option ℕ) → Option ℕ → List (Option ℕ)
 risen_by_in g n counts (Some count) = slice_set counts g (Some (count + n))
 risen_by_in g n counts None = counts

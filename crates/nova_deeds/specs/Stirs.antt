@@ -1,4 +1,4 @@
--- Whom a deed stirs of virtual CPUs, by what is left after it.
+-- The virtual CPUs that a deed stirs, by what is left after it.
 use Rattle.std.specs.Prelude.{ℕ, ◌≤◌, ◌==◌, ◌&&◌, Bool, true, false, nat_lt, length, slice_get, slice_index, Option, Some, None, option_and_then, if◌then◌else◌}
 use Rattle.nova_model.specs.AddressSpaces.{frame_for}
 use Rattle.nova_range.specs.Rights.{write_right}

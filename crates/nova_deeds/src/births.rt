@@ -7,7 +7,7 @@ use nova_range::Target;
 use nova_utcb::Utcb;
 use rv_core::Regs;
 
-/// What an object is, as rights go by it.
+/// The target that `object` is, as rights go by it.
 pub fn target_of(object: Object) -> Target
     ensures { result ≡ target_of object }
 {
@@ -20,7 +20,7 @@ pub fn target_of(object: Object) -> Target
     }
 }
 
-/// How an execution context begins: a local thread waits for a caller.
+/// How an execution context of `kind` begins: a local thread waits for a caller.
 fn first_state(kind: EcKind) -> State
     ensures { result ≡ first_state kind }
 {
@@ -30,7 +30,7 @@ fn first_state(kind: EcKind) -> State
     }
 }
 
-/// The object that is made.
+/// The object that is made as `new`.
 pub fn object_of(new: NewObject) -> Object
     ensures { result ≡ object_of new }
 {
@@ -64,7 +64,7 @@ pub fn object_of(new: NewObject) -> Object
     }
 }
 
-/// The execution context at birth, where one of this number is made.
+/// The execution context of `number` at birth, where `new` is one.
 pub fn context_of(number: u32, new: NewObject) -> Option<EcState>
     ensures { result ≡ context_of number new }
 {
@@ -88,7 +88,7 @@ pub const NO_TRANSFER: Transfer = Transfer {
     children: 0,
 };
 
-/// How far an execution context that is made is with items.
+/// The progress with items that a new `object` begins with: none yet for an execution context; nothing for any other object.
 pub fn transfer_of(object: Object) -> Option<Transfer>
     ensures { result ≡ transfer_of object }
 {
@@ -98,7 +98,7 @@ pub fn transfer_of(object: Object) -> Option<Transfer>
     }
 }
 
-/// The message words of a thread that is made, which are all 0; any other object has none.
+/// The message words that `object` begins with: all 0 for a thread, none for any other object.
 pub fn words_of(object: Object) -> Option<Utcb>
     ensures { result ≡ words_of object }
 {
@@ -111,7 +111,7 @@ pub fn words_of(object: Object) -> Option<Utcb>
     }
 }
 
-/// The stir count of a virtual CPU that is made, which is 0; any other object has none.
+/// The stir count that `object` begins with: 0 for a virtual CPU, none for any other object.
 pub fn stir_count_of(object: Object) -> Option<u64>
     ensures { result ≡ stir_count_of object }
 {
@@ -124,7 +124,7 @@ pub fn stir_count_of(object: Object) -> Option<u64>
     }
 }
 
-/// The identifier of a portal that is made.
+/// The identifier that `new` begins with, where it is a portal.
 pub fn identifier_of(new: NewObject) -> Option<u32>
     ensures { result ≡ identifier_of new }
 {
@@ -134,7 +134,7 @@ pub fn identifier_of(new: NewObject) -> Option<u32>
     }
 }
 
-/// The counter of a semaphore that is made.
+/// The counter that `new` begins with, where it is a semaphore.
 pub fn count_of(new: NewObject) -> Option<u32>
     ensures { result ≡ count_of new }
 {

@@ -12,15 +12,14 @@ use nova_range::Status;
 /// The reason of a recall exit.
 pub const RECALL: u32 = 8;
 
-/// Whether the recall of an execution context stays asked for after an exit: a recall is answered by
-/// its own.
+/// Whether the recall of `context` stays asked for after an exit of `reason`: a recall is answered by its own.
 fn stays_recalled(context: &EcState, reason: u32) -> bool
     ensures { result ≡ (context.now.recall && not (reason == recall)) }
 {
     context.recall && reason != RECALL
 }
 
-/// An exit is raised; the registers stay.
+/// Raises an exit of `ec`; the registers stay.
 fn raise(contexts: &mut Ecs, ec: u32, reason: u32, q0: u32, q1: u32)
     requires { IsSome (ec_in contexts.old.items ec) }
     ensures { contexts.new ≡ with_items contexts.old (with_ec contexts.old.items ec (actor_after (ec_of contexts.old.items ec) (Deed.Raises reason q0 q1))) }
@@ -30,7 +29,7 @@ fn raise(contexts: &mut Ecs, ec: u32, reason: u32, q0: u32, q1: u32)
     nova_exit::raise(contexts, ec, reason, q0, q1);
 }
 
-/// What a deed makes of the execution context itself, where it tells others nothing.
+/// Changes the execution context `ec` as its `deed` does, where that tells others nothing.
 #[tactic(auto, using(nova_ec::proofs::Steps::rests))]
 pub fn change(contexts: &mut Ecs, ec: u32, deed: Deed)
     requires there { IsSome (ec_in contexts.old.items ec) }
@@ -52,7 +51,7 @@ pub fn change(contexts: &mut Ecs, ec: u32, deed: Deed)
     }
 }
 
-/// How far an execution context is after an item: at the next, or at no item.
+/// The progress with items after `item`, which `after` follows: at the next, or at no item.
 pub fn transfer_after(item: u32, after: Sequel) -> Transfer
     requires { item < 62 }
     ensures { result ≡ transfer_after item after }

@@ -4,7 +4,7 @@ ghost use Rattle.nova_deeds.specs.Stirs.{stirs_itself};
 
 use nova_model::{Deed, Derivation, Kind};
 
-/// Whether a deed of a virtual CPU's own is an input from outside: its exit is sent, or it ends.
+/// Whether `deed`, a virtual CPU's own, is an input from outside: its exit is sent, or it ends.
 pub fn stirs_itself(deed: Deed) -> bool
     ensures { result ≡ stirs_itself deed }
 {
@@ -14,7 +14,7 @@ pub fn stirs_itself(deed: Deed) -> bool
     )
 }
 
-/// Whether a derivation is memory of a protection domain.
+/// Whether `d` is memory of the protection domain `pd`.
 pub fn is_memory_of(pd: u32, d: &Derivation) -> bool
     ensures { result ≡ is_memory_of pd d.now }
 {

@@ -15,14 +15,14 @@ use nova_range::{Range, read_word, word_of};
 /// The flag of an item that delegates.
 pub const DELEGATES: u32 = 1;
 
-/// The flag of an item: 1 delegates, 0 translates.
+/// The flag of the item `delivery`: 1 delegates, 0 translates.
 pub fn flag(delivery: Delivery) -> u32
     ensures { result ≡ flag delivery }
 {
     delivery.second_word % 2
 }
 
-/// The words that tell what came of an item, where somebody is told.
+/// The words `first` and `second` that tell what came of an item, for `told`, if any is.
 fn words_for(told: Option<u32>, first: u32, second: u32) -> Option<ItemWords>
     ensures { result ≡ words_for told first second }
 {
@@ -30,7 +30,7 @@ fn words_for(told: Option<u32>, first: u32, second: u32) -> Option<ItemWords>
     Some(ItemWords { ec, first, second })
 }
 
-/// The next item, or what follows the last.
+/// The next item of `delivery` after `item`, or what follows the last.
 fn sequel_of(delivery: Delivery, item: u32) -> Sequel
     requires { item < 62 }
     ensures { result ≡ sequel_of delivery item }
@@ -42,7 +42,7 @@ fn sequel_of(delivery: Delivery, item: u32) -> Sequel
     }
 }
 
-/// The deed by which an item ends, with its answer.
+/// The deed by which item `item` ends as `end`, with `answer`.
 pub fn finished(delivery: Delivery, item: u32, end: ItemEnd, answer: u32) -> Deed
     requires { item < 62 }
     ensures deed { result ≡ finished delivery item end answer }
@@ -56,7 +56,7 @@ pub fn finished(delivery: Delivery, item: u32, end: ItemEnd, answer: u32) -> Dee
     }
 }
 
-/// Who is told of the items of a reply: a caller who came by an exit isn't.
+/// The context that is told of the items of a reply: `caller`, unless it came by an exit.
 pub fn told_by(caller: u32, mark: Mark) -> Option<u32>
     ensures { result ≡ told_by caller mark }
 {
@@ -66,7 +66,7 @@ pub fn told_by(caller: u32, mark: Mark) -> Option<u32>
     }
 }
 
-/// The window of the whole space that a range word is of; 0 for a word that doesn't read or is null.
+/// The window of the whole space that the range word `word` is of; 0 for a word that doesn't read or is null.
 pub fn whole_of(word: u32) -> u32
     ensures { result ≡ whole_of (read_as (meaning_of word)) }
 {
@@ -83,7 +83,7 @@ pub fn whole_of(word: u32) -> u32
     }
 }
 
-/// The answer of a delegation of which so many children were made: the word of where it went.
+/// The answer of the delegation `job`, of which `children` children were made: the word of where it went.
 pub fn range_given(job: Job, children: u32) -> u32
     requires job { IsUnderWay job }
     requires rights { IsRights job.rights }
@@ -100,7 +100,7 @@ pub fn range_given(job: Job, children: u32) -> u32
     word_of(Some((dest, job.rights)))
 }
 
-/// How far it is after a part of which a child was made.
+/// The progress `transfer` after a part that was given: it is at `cursor`, and counts one child more.
 pub fn gave(transfer: Transfer, cursor: u32) -> Transfer
     requires { transfer.children < 2 ^ 31 }
     ensures { result ≡ gave transfer cursor }

@@ -16,8 +16,7 @@ use std::alloc::{AllocError, Global};
 /// The first selector of the root thread's events.
 const ROOT_EVENTS: u32 = 16;
 
-/// The objects: the root's protection domain, its execution context, a thread, and its scheduling
-/// context.
+/// The objects at boot: the root's protection domain, its execution context, a thread, and its scheduling context.
 pub fn root_objects(alloc: Global, root: Root) -> Result<Objects, AllocError>
     ensures { IfOk result (λ o. o.items ≡ root_objects root) }
 {
@@ -39,7 +38,7 @@ pub fn root_objects(alloc: Global, root: Root) -> Result<Objects, AllocError>
     Ok(objects)
 }
 
-/// The root's execution context, with pc and the stack pointer.
+/// The root's execution context at boot, with the pc and the stack pointer of `root`.
 pub fn root_context(root: Root) -> EcState
     ensures { result ≡ root_context root }
 {
@@ -53,7 +52,7 @@ pub fn root_context(root: Root) -> EcState
     }
 }
 
-/// The table of execution contexts.
+/// The table of execution contexts at boot, with the root's.
 pub fn root_contexts(alloc: Global, root: Root) -> Result<Ecs, AllocError>
     ensures { IfOk result (λ t. t.items ≡ None ∷ Some (root_context root) ∷ None ∷ []) }
 {
@@ -83,7 +82,7 @@ pub fn no_entries(alloc: Global) -> Result<Vec<Option<u32>>, AllocError>
     vec![in alloc; None; 3]
 }
 
-/// No revoke runs, and there is a place for each of the root's objects.
+/// No running revokes, with a place for each of the root's objects.
 pub fn root_revokes(alloc: Global) -> Result<Revokes, AllocError>
     ensures { IfOk result (λ r. (r.list ≡ []) × (3 ≤ r.places)) }
 {
@@ -117,7 +116,7 @@ pub fn root_guests(alloc: Global) -> Result<StirCounts, AllocError>
     Ok(guests)
 }
 
-/// Clocks at 0, and an entry for each of the root's objects, which has no deadline.
+/// The clocks of `cpus` processors at 0, and an entry for each of the root's objects, which has no deadline.
 pub fn root_times(alloc: Global, cpus: u32) -> Result<Times, AllocError>
     ensures { IfOk result (λ t. t.all ≡ record { clocks = replicate cpus 0; deadlines = None ∷ None ∷ None ∷ []; alarms = [] }) }
 {

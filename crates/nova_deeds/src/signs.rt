@@ -5,7 +5,7 @@ use nova_calls::numbers;
 use nova_choice::Chosen;
 use nova_model::{Deed, Event, EventKind, ItemEnd, Mark, Reason, Skip};
 
-/// Why a part is skipped, as a number.
+/// Why a part is skipped, `reason`, as a number.
 fn reason_number(reason: Reason) -> u32
     ensures { result ≡ reason_number reason }
 {
@@ -16,7 +16,7 @@ fn reason_number(reason: Reason) -> u32
     }
 }
 
-/// Why an item is skipped as a whole, as a number.
+/// Why an item is skipped as a whole, `skip`, as a number.
 fn skip_number(skip: Skip) -> u32
     ensures { result ≡ skip_number skip }
 {
@@ -26,7 +26,7 @@ fn skip_number(skip: Skip) -> u32
     }
 }
 
-/// A call is 0, and an exit 1.
+/// The number of `mark`: a call is 0, and an exit 1.
 fn mark_number(mark: Mark) -> u32
     ensures { result ≡ mark_number mark }
 {
@@ -36,7 +36,7 @@ fn mark_number(mark: Mark) -> u32
     }
 }
 
-/// What the end of an item comes to in an event: the kind, and two numbers.
+/// What the end of item `item` comes to in an event: the kind, and two numbers.
 fn item_sign(item: u32, end: ItemEnd) -> (EventKind, u32, u32)
     ensures { result ≡ item_sign item end }
 {
@@ -47,14 +47,15 @@ fn item_sign(item: u32, end: ItemEnd) -> (EventKind, u32, u32)
     }
 }
 
-/// The parent of a child, as a number.
+/// The id of `parent`, the parent of a child, as a number.
 fn parent_id(parent: Option<u32>) -> u32
     ensures { result ≡ parent_id parent }
 {
     parent.unwrap_or(0)
 }
 
-/// The sign of a deed: the kind of its event, and two numbers.
+/// The sign of `deed`: the kind of its event, and two numbers.
+#[inline(always)]
 pub fn sign_of(deed: Deed) -> (EventKind, u32, u32)
     ensures { result ≡ sign_of deed }
 {
@@ -94,7 +95,8 @@ pub fn sign_of(deed: Deed) -> (EventKind, u32, u32)
     }
 }
 
-/// The event of a turn, by the sign of its deed.
+/// The event of a turn of the processor `cpu` by `chosen`, with the sign of its deed.
+#[inline(always)]
 pub fn event(cpu: u32, chosen: Chosen, sign: (EventKind, u32, u32)) -> Event
     ensures { result ≡ record { cpu = cpu; sc = chosen.sc; ec = chosen.actor; kind = sign.0; a = sign.1; b = sign.2 } }
 {

@@ -53,7 +53,7 @@ impl StirCounts {
         Ok(())
     }
 
-    /// The same entries in memory of their own, with no spare room.
+    /// Copies the entries into memory of their own, with no spare room.
     pub fn copy(&self) -> Result<StirCounts, AllocError>
         ensures { IfOk result (λ copy. copy ≡ record { counts = self.now.counts; spare = 0 }) }
     {
@@ -66,8 +66,7 @@ impl StirCounts {
         })
     }
 
-    /// Adds the entry of the next number, which is below 2^32, in reserved room: the count of a virtual
-    /// CPU, or nothing.
+    /// Adds the entry of the next number, which is below 2^32, in reserved room: `count`, that of a virtual CPU, or nothing.
     pub fn add(&mut self, count: Option<u64>)
         requires spare { 0 < self.old.spare }
         requires few { length self.old.counts < 2 ^ 32 }
@@ -80,7 +79,7 @@ impl StirCounts {
         self.spare -= 1;
     }
 
-    /// The count of a virtual CPU, or nothing where none has the number.
+    /// The count of the virtual CPU `ec`, or nothing where none has the number.
     fn get(&self, ec: u32) -> Option<u64>
         ensures { result ≡ entry (slice_get self.now.counts ec) }
     {
@@ -90,7 +89,7 @@ impl StirCounts {
         }
     }
 
-    /// The count of a virtual CPU; 0 where none has the number.
+    /// The count of the virtual CPU `ec`; 0 where none has the number.
     pub fn count(&self, ec: u32) -> u64
         ensures { result ≡ count_in (entry (slice_get self.now.counts ec)) }
     {
@@ -104,7 +103,7 @@ impl StirCounts {
         self.numbers.as_slice()
     }
 
-    /// The count of a virtual CPU rises by one; nothing changes where none has the number.
+    /// Raises the count of the virtual CPU `ec` by one; nothing changes where none has the number.
     pub fn rise(&mut self, ec: u32)
         requires { count_in (entry (slice_get self.old.counts ec)) < 2 ^ 64 - 1 }
         ensures { self.new ≡ record self.old { counts = risen_at ec self.old.counts } }
@@ -113,7 +112,7 @@ impl StirCounts {
         self.counts[ec as usize] = Some(count + 1);
     }
 
-    /// The count of a virtual CPU rises by so many; nothing changes where none has the number.
+    /// Raises the count of the virtual CPU `ec` by `n`; nothing changes where none has the number.
     pub fn rise_by(&mut self, ec: u32, n: u64)
         requires { count_in (entry (slice_get self.old.counts ec)) + n < 2 ^ 64 }
         ensures { self.new ≡ record self.old { counts = risen_by ec n self.old.counts } }

@@ -1,4 +1,4 @@
--- The one derivation that covers a place, and the first of a line that lies in a protection domain.
+-- The derivation that covers a place, and the first of a line that lies in a protection domain.
 use Rattle.std.proofs.Common.{◌≡◌, ℕ, List, [], ◌∷◌, ◌++◌, ap, sym, ◌∙◌, subst, refl}
 use Rattle.std.specs.Prelude.{◌≢◌, Bool, true, false, ◌==◌, Contains, nat_lt, nat_le, Some, None}
 use Rattle.std.specs.List.{AllByRecursion, find}
@@ -15,7 +15,7 @@ use Rattle.nova_nodes.proofs.Found.{find_only}
 use Rattle.nova_nodes.proofs.Indexed.{in_space, passes_space, meeting}
 use Rattle.nova_delegate.specs.Answered.{Holds, IsNearest}
 
--- WHO HOLDS IT
+-- WHICH DERIVATION HOLDS IT
 
 pub holds_from : (giver : ℕ) (r : Range) (d : Derivation) → covers r.kind giver r.base d ≡ true → Holds giver r d
 holds_from giver r d h =

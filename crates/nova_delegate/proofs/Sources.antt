@@ -111,7 +111,7 @@ first_is j f forest d first =
 none_is : (j : Job) (list : List Derivation) → ((a : Derivation) → IsIn list a → IsAhead j a → ⊥) → first_ahead list j ≡ None
 none_is j list none = ap (least_by base_of) (none_filtered (is_ahead j) list (λ a i h. none a i (ahead_facts j a h)))
 
--- one that is ahead ends after where the search begins
+-- a derivation that is ahead ends after where the search begins
 in_reach : (j : Job) (a : Derivation) → IsAhead j a → max j.cursor j.source < end_of (range_of a)
 in_reach j a l = let c = l.at_cursor in let s = l.after in let some = pow_pos a.order in omega arith
 
@@ -131,7 +131,7 @@ first_found j f forest d is at =
 pub first_none : (j : Job) (f : Delegations) → first_from f.list j.kind j.giver (max j.cursor j.source) ≡ None → first_ahead f.list j ≡ None
 first_none j f none = none_is j f.list (λ a i l. none_from f.list j.kind j.giver (max j.cursor j.source) none a i l.of (in_reach j a l))
 
--- what is ahead begins after one that covers the cursor
+-- what is ahead begins after a derivation that covers the cursor
 past_first : (j : Job) (f : Delegations) → IsForest f → (d : Derivation) → IsFrom f.list j.kind j.giver (max j.cursor j.source) d → d.base < j.cursor →
     (a : Derivation) → IsIn f.list a → IsOf j.kind j.giver a → d.base < a.base → end_of (range_of d) ≤ a.base
 past_first j f forest d next before a i of from = by_case (cases_lt a.base (end_of (range_of d)))

@@ -22,7 +22,7 @@ pub record IsOnWay (list : List Derivation) (d at : Derivation) (pd : ℕ) : Typ
 pub at_start : (list : List Derivation) (d : Derivation) (pd : ℕ) → IsIn list d → IsPlaced d → IsOnWay list d d pd
 at_start list d pd there placed = record { there = there; placed = placed; same = refl }
 
--- one that lies in the protection domain is the nearest
+-- a derivation in the protection domain is the nearest
 pub at_end : (list : List Derivation) (d at : Derivation) (pd : ℕ) → IsOnWay list d at pd → (at.pd == pd) ≡ true → Some at ≡ nearest list d pd
 at_end list d at pd way here = (let first : Some at ≡ nearest list at pd = rw here refl in first) ∙ way.same
 

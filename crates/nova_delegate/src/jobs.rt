@@ -11,7 +11,7 @@ use nova_range::{Kind, Range, Rights, clamp, read_word};
 /// The bytes of a page: a hotspot stands in the bits of its word above them.
 const PAGE: u32 = 4096;
 
-/// What a range word reads as; nothing where it doesn't read or is null.
+/// What the range word `word` reads as; nothing where it doesn't read or is null.
 pub(crate) fn read(word: u32) -> Option<(Range, Rights)>
     ensures exact { result ≡ read_as (meaning_of word) }
     ensures sound { HasWord result }
@@ -22,7 +22,7 @@ pub(crate) fn read(word: u32) -> Option<(Range, Rights)>
     }
 }
 
-/// Whether two kinds are the same.
+/// Whether `a` and `b` are the same.
 pub(crate) fn is_same_kind(a: Kind, b: Kind) -> bool
     ensures { result ≡ is_same_kind a b }
 {
@@ -32,9 +32,9 @@ pub(crate) fn is_same_kind(a: Kind, b: Kind) -> bool
     }
 }
 
-/// The delegation of an item from one protection domain to another. `range_word` says what is sent and
-/// with which rights, and `window` what the receiver takes; the larger of the two is cut to the part
-/// that the hotspot lies in, the page number in `hotspot_word`. Refusals: `Empty` where either word
+/// The delegation of an item by the protection domain `giver` to `receiver`, within `window`. `range_word` says
+/// what is sent and with which rights, and `window` what the receiver takes; the larger of the two is cut to
+/// the part that the hotspot lies in, the page number in `hotspot_word`. Refusals: `Empty` where either word
 /// doesn't read or is null, then `Window` where the two are of different types.
 pub fn job(
     range_word: u32,

@@ -10,7 +10,7 @@ use nova_model::{Derivation, Job, Reason};
 use nova_nodes::{Guarded, Nodes};
 use nova_range::{Index, Range, Rights};
 
-/// The first place after a range, at most 2^20.
+/// The first place after `range`, at most 2^20.
 fn end(range: Range) -> u32
     requires { IsRange range }
     ensures { result ≡ end_of range }
@@ -18,7 +18,7 @@ fn end(range: Range) -> u32
     range.base + (1 << range.order)
 }
 
-/// The places that are given.
+/// The places that `job` gives.
 fn source_of(job: &Job) -> Range
     ensures { result ≡ source_of job.now }
 {
@@ -29,7 +29,7 @@ fn source_of(job: &Job) -> Range
     }
 }
 
-/// Of the giver's derivations at or after the cursor the first that ends after the source's first place.
+/// Of the giver's derivations at or after the cursor of `job` the first that ends after the source's first place.
 fn first_ahead<I: Index>(nodes: &Nodes<I>, job: &Job) -> Option<Derivation>
     ensures found { result ≡ first_ahead nodes.now.delegations.list job.now }
     ensures placed { IfSome result IsPlaced }
@@ -45,7 +45,7 @@ fn first_ahead<I: Index>(nodes: &Nodes<I>, job: &Job) -> Option<Derivation>
     }
 }
 
-/// The derivation that is given next: of those that are left the one of least base.
+/// The derivation that `job` gives next: of those that are left, that of least base.
 fn next_source<I: Index>(nodes: &Nodes<I>, job: &Job) -> Option<Derivation>
     requires job { IsUnderWay job.now }
     ensures found { result ≡ next_source nodes.now.delegations.list job.now }
@@ -58,7 +58,7 @@ fn next_source<I: Index>(nodes: &Nodes<I>, job: &Job) -> Option<Derivation>
     }
 }
 
-/// Whether some place of a range is held.
+/// Whether some place of `range` is held.
 fn is_held_in<I: Index>(nodes: &Nodes<I>, pd: u32, range: Range) -> bool
     requires { IsRange range }
     ensures { result ≡ is_held_in nodes.now.delegations.list pd range }
@@ -69,7 +69,7 @@ fn is_held_in<I: Index>(nodes: &Nodes<I>, pd: u32, range: Range) -> bool
     }
 }
 
-/// Whether a child, which would be next, is busy for a revoke.
+/// Whether `child`, which would be next, is busy for a revoke.
 fn is_busy<I: Index, G: Guarded>(nodes: &Nodes<I>, revokes: &[G], child: &Derivation) -> bool
     requires placed { IsPlaced child.now }
     requires id { child.now.id ≡ nodes.now.delegations.next }
@@ -84,7 +84,7 @@ fn is_busy<I: Index, G: Guarded>(nodes: &Nodes<I>, revokes: &[G], child: &Deriva
     false
 }
 
-/// The child that is made of a derivation that is left.
+/// The child, of id `id`, that `job` makes of `source`, a derivation that is left.
 fn child_of(job: &Job, source: &Derivation, id: u32) -> Derivation
     requires job { IsUnderWay job.now }
     requires placed { IsPlaced source.now }
@@ -104,7 +104,7 @@ fn child_of(job: &Job, source: &Derivation, id: u32) -> Derivation
     }
 }
 
-/// The child, or the first reason to skip it.
+/// `child`, or the first reason to skip it.
 fn judged<I: Index, G: Guarded>(
     nodes: &Nodes<I>,
     revokes: &[G],
@@ -126,9 +126,8 @@ fn judged<I: Index, G: Guarded>(
     }
 }
 
-/// The next part of a delegation, while these revokes run: of the derivations of the giver that are left the one of least base, and the
-/// child that is to be made of it, with the next id, or the first reason to skip it; nothing where no derivation is left. The child can be
-/// added.
+/// The next part of `job` while `revokes` run: the giver's derivation of least base that is left, with the child to be made of it or the first reason
+/// to skip it. The child has the next id and can be added. The answer is nothing where no derivation is left.
 pub fn next_part<I: Index, G: Guarded>(
     nodes: &Nodes<I>,
     job: &Job,

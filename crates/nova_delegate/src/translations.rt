@@ -12,7 +12,7 @@ use nova_model::Derivation;
 use nova_nodes::Nodes;
 use nova_range::{Index, Range, Rights, inside, word_of};
 
-/// The parent of a derivation.
+/// The parent of the derivation `d`.
 fn parent_of<I: Index>(nodes: &Nodes<I>, d: &Derivation) -> Option<Derivation>
     ensures found { result ≡ parent_of nodes.now.delegations.list d.now }
     ensures placed { IfSome result IsPlaced }
@@ -21,8 +21,7 @@ fn parent_of<I: Index>(nodes: &Nodes<I>, d: &Derivation) -> Option<Derivation>
     nodes.get(id)
 }
 
-/// Of a derivation that is there, its parent, the parent's parent and so on the first that lies in a
-/// protection domain.
+/// Of `d`, which is there, its parent, the parent's parent and so on, the first that lies in the protection domain `pd`.
 fn nearest<I: Index>(nodes: &Nodes<I>, d: Derivation, pd: u32) -> Option<Derivation>
     requires sound { IsSound nodes.now.delegations }
     requires there { Contains nodes.now.delegations.list d }
@@ -37,14 +36,14 @@ fn nearest<I: Index>(nodes: &Nodes<I>, d: Derivation, pd: u32) -> Option<Derivat
     Some(at)
 }
 
-/// The smaller of two ranges.
+/// The smaller of `a` and `b`.
 fn smaller(a: Range, b: Range) -> Range
     ensures { result ≡ smaller a b }
 {
     if a.order <= b.order { a } else { b }
 }
 
-/// The places through which one derivation leads to the targets of another's places.
+/// The places through which `a` leads to the targets of `places` of `d`.
 fn seen_through(a: &Derivation, d: &Derivation, places: Range) -> Range
     requires { IsSeen a.now d.now places }
     ensures exact { result ≡ seen_through a.now d.now places }
@@ -57,7 +56,7 @@ fn seen_through(a: &Derivation, d: &Derivation, places: Range) -> Range
     }
 }
 
-/// An answer, if it lies inside the window and is of its type.
+/// `answer`, if it lies inside `window` and is of its type.
 fn within(window: Option<(Range, Rights)>, answer: (Range, Rights)) -> Option<(Range, Rights)>
     requires window { HasWord window }
     requires answer { HasWord (Some answer) }
@@ -72,7 +71,7 @@ fn within(window: Option<(Range, Rights)>, answer: (Range, Rights)) -> Option<(R
     }
 }
 
-/// A range of the giver's, with rights, as the receiver has it.
+/// `item`, a range of the giver's with rights, as the receiver has it.
 fn translation<I: Index>(
     nodes: &Nodes<I>,
     giver: u32,
@@ -93,13 +92,13 @@ fn translation<I: Index>(
     within(window, (places, rights))
 }
 
-/// The word that answers a range word of the giver's: the same memory or object as the receiver has it.
-/// Of the giver's derivation that covers the range's base, its parent, the parent's parent and so on
-/// the first of the receiver's is taken, and the answer is where it leads to what the smaller of range
-/// and giver's derivation leads to, with the rights that both the item and the giver's derivation have.
-/// It is 0 where the range word or the window doesn't read or is null, where there is no such
-/// derivation of the giver's or of the receiver's, and where the answer is not of the window's type or
-/// doesn't lie inside it. It takes no memory.
+/// The word that answers `range_word` of the domain `giver`: the same memory or object as the domain `receiver`
+/// has it. Of the giver's derivation that covers the range's base, its parent, the parent's parent and so on
+/// the first of the receiver's is taken, and the answer is where it leads to what the smaller of range and
+/// giver's derivation leads to, with the rights that both the item and the giver's derivation have. It is 0
+/// where the range word or the window doesn't read or is null, where there is no such derivation of the giver's
+/// or of the receiver's, and where the answer is not of the window's type or doesn't lie inside it. It takes no
+/// memory.
 #[tactic(auto, unfolding(nova_model::specs::Translations::translated))]
 pub fn translate<I: Index>(
     nodes: &Nodes<I>,

@@ -1,4 +1,4 @@
--- One that acts before and after it changes moves no turns: chases end at it both times, and nobody finds it free or dead.
+-- A context that acts before and after it changes moves no turns: chases end at it both times, and no other finds it free or dead.
 use Rattle.std.proofs.Common.{◌≡◌, ℕ, zero, suc, length, ap, ap₂, sym, ◌∙◌, subst, refl, arith}
 use Rattle.std.specs.Prelude.{Bool, true, false, ◌==◌, ◌||◌, ◌≢◌, Option, Some, None, is_none, option_map, option_and_then, if◌then◌else◌}
 use Rattle.std.specs.List.{find}
@@ -17,7 +17,7 @@ use Rattle.nova_ec.specs.Ways.{TurnsStay}
 use Rattle.nova_ec.proofs.Donors.{acts_like, unmoved_keeps_chases}
 use Rattle.nova_ec.proofs.Tables.{ec_in-set_other, ec_in-set_same, ec_of-there}
 
--- one that acts is there, neither free nor dead
+-- a context that acts is there, neither free nor dead
 pub record IsAwake (cs : Contexts) (e : ℕ) : Type 0 where
   pub context : EcState
   pub there : ec_in cs e ≡ Some context
@@ -65,13 +65,13 @@ awake cs e here = by_entry (ec_in cs e) refl here
           dead = ap (λ (o : Option EcState). is_dead (option_map (λ (z : EcState). z.state) o)) there ∙ not_dead x.state free;
         }
 
--- two tables that differ at one place alone, where both have one that acts
+-- two tables that differ at one place alone, where both have a context that acts
 record AreAwake (cs ds : Contexts) (e : ℕ) : Type 0 where
   before : acts cs e ≡ true
   now : acts ds e ≡ true
   others : (z : ℕ) → z ≢ e → state_in ds z ≡ state_in cs z
 
--- who looks at a handler sees no difference
+-- a context that looks at a handler sees no difference
 alike_free : (cs ds : Contexts) (e z : ℕ) → AreAwake cs ds e → is_free (state_in ds z) ≡ is_free (state_in cs z)
 alike_free cs ds e z both = by_place (z == e) refl
   where
@@ -109,7 +109,7 @@ acts_all cs ds e z both = by_place (z == e) refl
         let at : z ≡ e = grind (arith, is) in subst (λ (n : ℕ). acts ds n ≡ acts cs n) (sym at) (both.now ∙ sym both.before)
     by_place false is = acts_others cs ds e z both (λ at. absurd (grind (arith, is, at)))
 
--- the same search, which ends at that one
+-- the same search, which ends at that context
 here_stays : (cs : Contexts) (e : ℕ) → acts cs e ≡ true → stays cs e ≡ true
 here_stays cs e here = ap (λ (t : Bool). t || is_none (edge cs e)) here
 
@@ -145,13 +145,13 @@ acting_keeps_chases cs e y before now z =
       acts_all cs (with_ec cs e y) e z both,
     )
 
--- one that acts in its new state, wherever its edge leads
+-- a context that acts in its new state, wherever its edge leads
 pub acts_alone : (cs : Contexts) (e : ℕ) (x y : EcState) → ec_in cs e ≡ Some x → ((handler : Option State) → acts_by y.state handler ≡ true) → acts (with_ec cs e y) e ≡ true
 acts_alone cs e x y there alone =
     ap (λ (o : Option EcState). acts_as (with_ec cs e y) (option_map (λ (w : EcState). w.state) o)) (ec_in-set_same cs e x y there)
     ∙ alone (option_and_then (state_in (with_ec cs e y)) (edge_of y.state))
 
--- so all turns stay where one that acts comes to a state like that, or keeps its state
+-- so all turns stay where a context that acts comes to a state like that, or keeps its state
 pub all_stay_alone : (cs : Contexts) (e : ℕ) (y : EcState) → acts cs e ≡ true → ((handler : Option State) → acts_by y.state handler ≡ true) → AllStay cs (with_ec cs e y)
 all_stay_alone cs e y before alone =
     let here = awake cs e before in acting_keeps_chases cs e y before (acts_alone cs e here.context y here.there alone)

@@ -1,4 +1,4 @@
--- Whom a call or an exit reaches, in words: each answer, and where it comes.
+-- The handler that a call or an exit reaches, in words: each answer, and where it comes.
 use Rattle.std.proofs.Common.{◌≡◌, ◌⊎◌, inl, inr, ℕ, ap, refl, arith, IsSome}
 use Rattle.std.specs.Prelude.{◌↔◌, Bool, true, false, ◌||◌, not, Option, Some, None, if◌then◌else◌}
 use Rattle.std.proofs.lemmas.Bool.{both_ways, or_cases, or_parts}

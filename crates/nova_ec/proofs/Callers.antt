@@ -1,4 +1,4 @@
--- Callers of a table of execution contexts stay sound where one changes and where one joins.
+-- Callers of a table of execution contexts stay sound where a context changes and where one joins.
 use Rattle.std.proofs.Common.{◌≡◌, ℕ, zero, suc, [], ◌∷◌, ◌++◌, ap, sym, ◌∙◌, subst, inl, inr, refl, arith}
 use Rattle.std.specs.Prelude.{Bool, true, false, ◌==◌, ◌≢◌, ◌⊎◌, Option, Some, None, IfSome, slice_set, option_map}
 use Rattle.nova_model.specs.State.{Contexts, ec_in}
@@ -12,7 +12,7 @@ use Rattle.nova_ec.proofs.Tables.{ec_in-set_same, ec_in-set_other, cpu-set, cpu-
 caller_there : (cs : Contexts) (e : ℕ) (x : EcState) → ec_in cs e ≡ Some x → caller_in cs e ≡ x.caller
 caller_there cs e x there = ap caller_at there
 
--- who has a caller is there
+-- a context that has a caller is there
 pub server_there : (cs : Contexts) (e c : ℕ) (mark : Mark) → caller_in cs e ≡ Some (c, mark) → (x : EcState) × (ec_in cs e ≡ Some x)
 server_there cs e c mark serves = by_place (ec_in cs e) refl serves
   where
@@ -26,7 +26,7 @@ caller-set_same cs e x y there = ap caller_at (ec_in-set_same cs e x y there)
 caller-set_other : (cs : Contexts) (e f : ℕ) (o : Option EcState) → f ≢ e → caller_in (slice_set cs e o) f ≡ caller_in cs f
 caller-set_other cs e f o other = ap caller_at (ec_in-set_other cs e f o other)
 
--- a changed one with a caller that it may serve
+-- a changed context with a caller that it may serve
 pub callers_set : (cs : Contexts) (e : ℕ) (x y : EcState) → AreCallers cs → ec_in cs e ≡ Some x → y.cpu ≡ x.cpu → MayServe cs e y.caller → AreCallers (slice_set cs e (Some y))
 callers_set cs e x y sound there cpu may f c mark is = cpu-set cs e x y there cpu c ∙ by_place (f == e) refl ∙ sym (cpu-set cs e x y there cpu f)
   where
@@ -51,7 +51,7 @@ pub callers_put : (cs : Contexts) (e : ℕ) (y : EcState) → AreCallers cs → 
 callers_put cs e y sound (x, there, cpu, edge, id, inl same) = callers_kept cs e x y sound there cpu same
 callers_put cs e y sound (x, there, cpu, edge, id, inr may) = callers_set cs e x y sound there cpu may
 
--- one joins
+-- a context joins
 
 pub callers_none : AreCallers []
 callers_none e c mark is = absurd cc

@@ -25,7 +25,7 @@ there_at cs e there = by_place (ec_in cs e) there
     by_place None some = absurd cc
     by_place (Some x) some = refl
 
--- what one may become
+-- what a context may become
 
 pub deed_may : (cs : Contexts) (e : ℕ) (d : Deed) → IsSome (ec_in cs e) → MayWait cs e (edge_by d) → MayBecome cs e (actor_after (ec_of cs e) d)
 deed_may cs e Rests there may = (ec_of cs e, there_at cs e there, refl, inl refl, refl, inl refl)
@@ -92,7 +92,7 @@ keeps_through cs ds es first second = record {
   cpus = λ e. second.cpus e ∙ first.cpus e;
 }
 
--- two of one processor: where one is there, so is the other, also after a change
+-- two contexts of one processor: where either is there, so is the other, also after a change
 some_there : (cs : Contexts) (e : ℕ) → (x : EcState) × (ec_in cs e ≡ Some x) → IsSome (ec_in cs e)
 some_there cs e is = subst (λ (o : Option EcState). IsSome o) (sym is.1) refl
 

@@ -54,7 +54,7 @@ abbrev acts_for : Option State → Option State → Bool
 acts_for None handler = false
 acts_for (Some s) handler = acts_by s handler
 
--- alike for who looks at them
+-- alike for a context that looks at them
 record AreAlike (o p : Option State) : Type 0 where
   dead : is_dead o ≡ is_dead p
   free : is_free o ≡ is_free p

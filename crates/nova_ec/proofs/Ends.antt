@@ -56,7 +56,7 @@ chases_end cs e sound = by_found (find (stays cs) (met cs e)) refl
         let found = found_along (length cs) (stays cs) (edge cs) e f is in
         record { edges = found.edges; way = found.way; last = found.last; first = found.first }
 
--- one that is met is met after some edges
+-- a context that is met is met after some edges
 met_way : (n : ℕ) (g : ℕ → Option ℕ) (e f : ℕ) → list_any (eqb f) (met_within n g (Some e)) ≡ true → (k : ℕ) × (after_edges k g e ≡ Some f)
 met_way zero g e f h = absurd cc
 met_way (suc n) g e f h = by_place (eqb f e) refl (g e) refl (λ z there. met_way n g z f there)

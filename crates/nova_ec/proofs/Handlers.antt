@@ -19,14 +19,14 @@ use Rattle.nova_ec.proofs.Tables.{cpu-set, ec_in-set_same, ec_in-set_other}
 
 -- ONE CHANGES
 
--- one that is put into the table is there, and others stay
+-- a context that is put into the table is there, and others stay
 pub put_itself : (cs : Contexts) (e : ℕ) (y : EcState) → IsSome (ec_in cs e) → ec_in (with_ec cs e y) e ≡ Some y
 put_itself cs e y is = ec_in-set_same cs e (ec_of cs e) y (there_at cs e is)
 
 pub put_other : (cs : Contexts) (e f : ℕ) (y : EcState) → f ≢ e → ec_in (with_ec cs e y) f ≡ ec_in cs f
 put_other cs e f y other = ec_in-set_other cs e f (Some y) other
 
--- one that is about to do another thing
+-- a context that is about to do another thing
 pub turned : (cs : Contexts) (e : ℕ) (state : State) → IsSome (ec_in cs e) → ec_in (turned_to cs e state) e ≡ Some (record (ec_of cs e) { state = state })
 turned cs e state is = put_itself cs e (record (ec_of cs e) { state = state }) is
 
@@ -73,7 +73,7 @@ module _ (cs : Contexts) (e f : ℕ) (y : EcState) (next : EcState → EcState) 
   pub both_others : (z : ℕ) → z ≢ e → z ≢ f → ec_in (with_both cs e y f next) z ≡ ec_in cs z
   both_others z first second = put_other (with_ec cs e y) f z (next (ec_of (with_ec cs e y) f)) second ∙ put_other cs e z y first
 
--- registers of one that begins, and of one that returns
+-- registers of a context that begins, and of one that returns
 pub one_register : (r : Registers) (v : ℕ) → 10 < length r.x → reg (record r { x = slice_set r.x 10 v }) 10 ≡ v
 one_register r v wide = get_or-set_same r.x 10 v 0 wide
 

@@ -14,7 +14,7 @@ use Rattle.nova_ec.proofs.Callers.{callers_put}
 use Rattle.nova_ec.proofs.Tables.{ec_of-there, ec_read, edges_put, numbered_put}
 use Rattle.nova_ec.proofs.Waiting.{known_kept, known_put, length-changed}
 
--- the table with who may wait for whom, in vectors with room (the types A and B)
+-- the table with the contexts that may wait for each, in vectors with room (the types A and B)
 abbrev pub AreSound : Type 0 → Type 0 → Contexts → List Waiters → Type 0
 AreSound A B cs all = AreEdges cs × A × AreNumbered cs × AreCallers cs × B × (length all ≡ length cs) × AreKnown cs all
 
@@ -31,7 +31,8 @@ sound_kept cs all e y may state (edges, a, numbers, callers, b, long, known) = (
   known_kept cs all e may.0 y known may.1 state,
 )
 
--- one that leaves whom it waited for, and waits for the one that its new state names; the vector of those who wait keeps its length and capacity
+-- a context that leaves the handler that it waited for, and waits for that which its new state names; the vector of waiters keeps its length and
+-- capacity
 pub sound_put : {A : Type 0} {len capacity len' capacity' : ℕ} (spare : ℕ) (cs : Contexts) (all rest : List Waiters) (e : ℕ) (y z : EcState) (left next : Option ℕ) → y ≡ z →
     MayBecome cs e z → edge_of z.state ≡ next → rest ≡ changed (with_waiter e) next (changed (without_waiter e) left all) → len' ≡ len → capacity' ≡ capacity →
     AreSound A (len + spare ≤ capacity) cs all → AreSound A (len' + spare ≤ capacity') (slice_set cs e (Some y)) rest
@@ -48,7 +49,7 @@ sound_put {A} {len} {capacity} {len'} {capacity'} spare cs all rest e y z left n
       subst (λ (xs : List Waiters). AreKnown (slice_set cs e (Some z)) xs) (sym joined) (known_put cs all e z left known may),
     )
 
--- who begins to serve waits for nobody
+-- a context that begins to serve waits for none
 pub serving_waits : (x : EcState) (c : ℕ) (mark : Mark) (ip identifier : ℕ) (items : Bool) → edge_of (serving x c mark ip identifier items).state ≡ None
 serving_waits x c mark ip identifier true = refl
 serving_waits x c mark ip identifier false = refl

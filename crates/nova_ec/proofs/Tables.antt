@@ -1,4 +1,4 @@
--- Edges of a table of execution contexts stay sound where one changes and where one joins.
+-- Edges of a table of execution contexts stay sound where a context changes and where one joins.
 use Rattle.std.proofs.Common.{◌≡◌, ℕ, zero, suc, ◌+◌, ◌<◌, [], ◌∷◌, ◌++◌, length, ap, sym, ◌∙◌, subst, refl, arith, IsSome, ◌-◌, inl, inr}
 use Rattle.std.specs.Prelude.{Bool, true, false, ◌==◌, ◌≢◌, ◌⊎◌, Option, Some, None, slice_index_or, slice_set, option_map, option_and_then}
 use Rattle.std.specs.List.{find}
@@ -27,7 +27,7 @@ there_below [] e x h = absurd cc
 there_below (c ∷ cs) zero x h = omega arith
 there_below (c ∷ cs) (suc e) x h = omega (arith, there_below cs e x h)
 
--- one that has a processor is there
+-- a context that has a processor is there
 pub there_by_cpu : (cs : Contexts) (e cpu : ℕ) → cpu_in cs e ≡ Some cpu → (x : EcState) × (ec_in cs e ≡ Some x)
 there_by_cpu cs e cpu h = by_place (ec_in cs e) refl h
   where
@@ -38,7 +38,7 @@ there_by_cpu cs e cpu h = by_place (ec_in cs e) refl h
 cpu_below : (cs : Contexts) (e cpu : ℕ) → cpu_in cs e ≡ Some cpu → e < length cs
 cpu_below cs e cpu h = let is = there_by_cpu cs e cpu h in there_below cs e is.0 is.1
 
--- an edge leaves one that is there
+-- an edge leaves a context that is there
 pub edge_there : (cs : Contexts) (e h : ℕ) → edge cs e ≡ Some h → (x : EcState) × (ec_in cs e ≡ Some x)
 edge_there cs e h edges = by_place (ec_in cs e) refl edges
   where
@@ -49,7 +49,7 @@ edge_there cs e h edges = by_place (ec_in cs e) refl edges
 cpu_of_there : (cs : Contexts) (e : ℕ) (x : EcState) → ec_in cs e ≡ Some x → cpu_in cs e ≡ Some x.cpu
 cpu_of_there cs e x is = ap (option_map (λ (y : EcState). y.cpu)) is
 
--- and leads to one that is there
+-- and leads to a context that is there
 pub edge_below : (cs : Contexts) → AreEdges cs → (e h : ℕ) → edge cs e ≡ Some h → h < length cs
 edge_below cs sound e h is =
     let from = edge_there cs e h is in cpu_below cs h from.0.cpu (sound.one_processor e h is ∙ cpu_of_there cs e from.0 from.1)
@@ -89,7 +89,7 @@ set_one_processor cs e x y sound there cpu own f h is = cpu-set cs e x y there c
         own h (sym (edge-set_same cs e x y there) ∙ ap (edge (slice_set cs e (Some y))) (sym same) ∙ is) ∙ ap (cpu_in cs) (sym same)
     by_place false place = sound.one_processor f h (sym (edge-set_other cs e y f (λ same. absurd (grind (arith, place, same)))) ∙ is)
 
--- a changed one that waits for no other than it may
+-- a changed context that waits for no other than it may
 pub edges_set : (cs : Contexts) (e : ℕ) (x y : EcState) (o : Option ℕ) → AreEdges cs → ec_in cs e ≡ Some x → y.cpu ≡ x.cpu → edge_of y.state ≡ o → MayWait cs e o →
     AreEdges (slice_set cs e (Some y))
 edges_set cs e x y None sound there cpu is may = record {
@@ -102,7 +102,7 @@ edges_set cs e x y (Some h) sound there cpu is may = record {
       (no_way cs sound e h (cpu_below cs h x.cpu (may.one_processor ∙ cpu_of_there cs e x there)) may.no_circle);
 }
 
--- a changed one in the state that it had
+-- a changed context in the state that it had
 pub edges_kept : (cs : Contexts) (e : ℕ) (x y : EcState) → AreEdges cs → ec_in cs e ≡ Some x → y.cpu ≡ x.cpu → y.state ≡ x.state → AreEdges (slice_set cs e (Some y))
 edges_kept cs e x y sound there cpu state =
     let before : edge cs e ≡ edge_of x.state = ap (λ (o : Option EcState). option_and_then edge_of (option_map (λ (z : EcState). z.state) o)) there in record {
@@ -116,7 +116,7 @@ edges_kept cs e x y sound there cpu state =
         ap (edge (slice_set cs e (Some y))) same ∙ edge-set_same cs e x y there ∙ ap edge_of state ∙ sym before ∙ ap (edge cs) (sym same)
     by_place f false place before = edge-set_other cs e y f (λ same. absurd (grind (arith, place, same)))
 
--- one joins
+-- a context joins
 
 pub ec_in-more : (cs : Contexts) (o : Option EcState) (e : ℕ) (x : EcState) → ec_in cs e ≡ Some x → ec_in (cs ++ o ∷ []) e ≡ Some x
 ec_in-more [] o e x h = absurd cc
@@ -147,7 +147,7 @@ edges_more cs o sound none = record {
 pub edges_none : AreEdges []
 edges_none = record { one_processor = λ e h is. absurd cc; no_circle = λ e n round. absurd cc }
 
--- an entry that is read where one is there
+-- an entry that is read where a context is there
 pub ec_read : (cs : Contexts) (e : ℕ) (y : Option EcState) (x : EcState) → IsSome (ec_in cs e) → y ≡ slice_index_or cs e y → y ≡ Some x → ec_in cs e ≡ Some x
 ec_read [] e y x there read is = absurd cc
 ec_read (c ∷ cs) zero y x there read is = sym read ∙ is
@@ -169,7 +169,7 @@ chase_ends (c ∷ cs) e sound h = by_edge (edge (c ∷ cs) e) refl
         let found : IsSome (find (stays (c ∷ cs)) (met (c ∷ cs) e)) = met_to_end (length (c ∷ cs)) (edge (c ∷ cs)) e (stays (c ∷ cs)) few alone in
         absurd cc
 
--- one that is there is the one of its number
+-- a context that is there is that of its number
 pub ec_of-there : (cs : Contexts) (e : ℕ) (x : EcState) → ec_in cs e ≡ Some x → ec_of cs e ≡ x
 ec_of-there cs e x there = ap context_in there
 

@@ -63,7 +63,7 @@ turns_stay cs ds P e sound same here far =
       acts-same cs ds P (chase cs e) same (along end.edges cs ds P e (chase cs e) same here end.way),
     )
 
--- in other words: who acts
+-- in other words: the context that acts
 
 pub same_acts : (cs ds : Contexts) (e : ℕ) → TurnsStay cs ds e → acts ds (chase ds e) ≡ acts cs (chase cs e)
 same_acts cs ds e stay = ap (acts ds) stay.0 ∙ stay.1
@@ -81,7 +81,7 @@ length-more : (cs : Contexts) (o : Option EcState) → length (cs ++ o ∷ []) �
 length-more [] o = refl
 length-more (c ∷ cs) o = ap suc (length-more cs o)
 
--- there is one at the place
+-- there is a context at the place
 abbrev IsThere : Contexts → ℕ → Type 0
 IsThere cs x = (y : EcState) × (ec_in cs x ≡ Some y)
 

@@ -1,4 +1,4 @@
--- Who may wait for a handler stays known where one changes and where one joins.
+-- The contexts that may wait for a handler stay known where a context changes and where one joins.
 use Rattle.std.proofs.Common.{◌≡◌, ℕ, zero, suc, ◌<◌, List, [], ◌∷◌, ◌++◌, length, ap, sym, ◌∙◌, subst, refl, arith}
 use Rattle.std.specs.Prelude.{Bool, true, false, ◌==◌, ◌≢◌, if◌then◌else◌, Option, Some, None, IfSome, slice_get, slice_set, option_map, option_and_then}
 use Rattle.std.proofs.lemmas.List.{length-set}
@@ -89,7 +89,7 @@ get_more (y ∷ all) x (suc h) below = get_more all x h (omega (arith, below))
 pub known_none : AreKnown [] []
 known_none z h is = absurd cc
 
--- one changes: it leaves whom it may have waited for, and joins whom it waits for then
+-- a context changes: it leaves the handler that it may have waited for, and joins the waiters of that which it waits for then
 pub known_put : (cs : Contexts) (all : List Waiters) (e : ℕ) (y : EcState) (left : Option ℕ) → AreKnown cs all → MayBecome cs e y →
     AreKnown (slice_set cs e (Some y)) (changed (with_waiter e) (edge_of y.state) (changed (without_waiter e) left all))
 known_put cs all e y left known may z h is = by_place (z == e) refl
@@ -126,7 +126,7 @@ known_kept cs all e x y known there state z h is = by_place (z == e) refl
         (known e h (before ∙ ap edge_of (sym state) ∙ sym (edge-set_same cs e x y there) ∙ ap (edge (slice_set cs e (Some y))) (sym at) ∙ is))
     by_place false place = known z h (sym (edge-set_other cs e y z (λ at. absurd (grind (arith, place, at)))) ∙ is)
 
--- one joins, for whom nobody waits yet
+-- a context joins, for which none waits yet
 pub known_more : (cs : Contexts) (all : List Waiters) (o : Option EcState) → AreEdges cs → length all ≡ length cs →
     option_and_then edge_of (option_map (λ (z : EcState). z.state) o) ≡ None → AreKnown cs all → AreKnown (cs ++ o ∷ []) (all ++ Nobody ∷ [])
 known_more cs all o sound long none known z h is =
@@ -141,6 +141,6 @@ length-both cs all o long = more all Nobody ∙ ap suc long ∙ sym (more cs o)
     more [] x = refl
     more (y ∷ xs) x = ap suc (more xs x)
 
--- one who waits is among those that are kept
+-- a context that waits is among those that are kept
 pub among_kept : (cs : Contexts) (all : List Waiters) (e : ℕ) (these : Waiters) → AreKnown cs all → slice_get all e ≡ Some these → (z : ℕ) → edge cs z ≡ Some e → IsAmong z these
 among_kept cs all e these known at z is = subst (λ (o : Option Waiters). IfSome o (IsAmong z)) at (known z e is)

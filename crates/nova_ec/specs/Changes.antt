@@ -89,7 +89,7 @@ NewWays = (cs : Contexts) (e x f n : ℕ) (y : EcState) → after_edges n (edge 
 
 -- TURNS
 
--- from the first table to the second, all turns stay with whom they stayed, and the same ones act
+-- from the first table to the second, all turns stay with the contexts that they stayed with, and the same contexts act
 abbrev pub AllStay : Contexts → Contexts → Type 0
 AllStay cs ds = (z : ℕ) → (chase ds z ≡ chase cs z) × (acts ds z ≡ acts cs z)
 
@@ -97,12 +97,12 @@ AllStay cs ds = (z : ℕ) → (chase ds z ≡ chase cs z) × (acts ds z ≡ acts
 abbrev pub ActingKeepsChases : Type 0
 ActingKeepsChases = (cs : Contexts) (e : ℕ) (y : EcState) → acts cs e ≡ true → acts (with_ec cs e y) e ≡ true → AllStay cs (with_ec cs e y)
 
--- whether one that acted acts after its deed
+-- whether a context that acted acts after its deed
 abbrev pub acts_after : Sequel → Bool
 acts_after (Replied caller mark) = false
 acts_after other = true
 
--- one whose call is aborted goes on, and one whose exit is aborted dies
+-- a context whose call is aborted goes on, and a context whose exit is aborted dies
 abbrev pub is_call : Mark → Bool
 is_call mark.Call = true
 is_call mark.Exit = false

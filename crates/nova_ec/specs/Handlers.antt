@@ -1,4 +1,4 @@
--- A handler and whoever calls it or raises an exit to it, in words: where a message is taken, and what becomes of both.
+-- A handler and the context that calls it or raises an exit to it, in words: where a message is taken, and what becomes of both.
 use Rattle.std.specs.Prelude.{ℕ, ◌≡◌, ◌≢◌, ◌⊎◌, Bool, true, false, if◌then◌else◌, Some, None, IsSome}
 use Rattle.rv_model.specs.Registers.{reg}
 use Rattle.nova_model.specs.State.{Contexts, ec_in}
@@ -7,7 +7,7 @@ use Rattle.nova_model.specs.declared.context.EcState.{EcState}
 use Rattle.nova_model.specs.declared.context.Mark.{Mark}
 use Rattle.nova_model.specs.declared.context.State.TheVariants.{Granting, Ready, Parked, Dead}
 
--- a caller, or one that raised an exit, and a handler that are there, on one processor
+-- a caller, or a context that raised an exit, and a handler that are there, on one processor
 pub record AreTogether (cs : Contexts) (caller handler : ℕ) : Type 0 where
   pub there : IsSome (ec_in cs caller)
   pub one_processor : cpu_in cs handler ≡ cpu_in cs caller

@@ -14,7 +14,7 @@ pub record EcTable : Type 0 where
   pub items : Contexts
   pub spare : ℕ
 
--- who acts in the turns of an execution context, where the one at the end of its chase does
+-- the context that acts in the turns of an execution context, where the end of its chase does
 abbrev pub actor_in : Contexts → ℕ → Option ℕ
 actor_in cs e = if acts cs (chase cs e) then Some (chase cs e) else None
 
@@ -32,8 +32,8 @@ IsNumbered n o = IfSome o (λ x. x.id ≡ n)
 abbrev pub AreNumbered : Contexts → Type 0
 AreNumbered cs = (n : ℕ) → IsNumbered n (ec_in cs n)
 
--- one that is there may become another of its number and processor, in the same state or waiting for one that it may wait for, and
--- with the same caller or one that it may serve
+-- a context that is there may become another of its number and processor, in the same state or waiting for a handler that it may wait for, and with
+-- the same caller or one that it may serve
 abbrev pub MayBecome : Contexts → ℕ → EcState → Type 0
 MayBecome cs e y =
     (x : EcState) × (ec_in cs e ≡ Some x) × (y.cpu ≡ x.cpu) × ((y.state ≡ x.state) ⊎ MayWait cs e (edge_of y.state)) × (y.id ≡ x.id)

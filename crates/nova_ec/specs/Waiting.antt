@@ -1,4 +1,4 @@
--- Who may wait for a handler.
+-- The contexts that may wait for a handler.
 use Rattle.std.specs.Prelude.{ℕ, ◌≡◌, ◌==◌, List, Option, Some, None, IfSome, if◌then◌else◌, slice_get, slice_set}
 use Rattle.nova_model.specs.Edges.{edge}
 use Rattle.nova_model.specs.State.{Contexts}
@@ -11,17 +11,17 @@ IsAmong ec Nobody = ⊥
 IsAmong ec (Only other) = other ≡ ec
 IsAmong ec Several = Unit {0}
 
--- of each who waits for it is one of those that are kept
+-- each context that waits for a handler is among those that are kept for it
 abbrev pub AreKnown : Contexts → List Waiters → Type 0
 AreKnown cs all = (z h : ℕ) → edge cs z ≡ Some h → IfSome (slice_get all h) (IsAmong z)
 
--- another one waits
+-- another context waits
 abbrev pub with_waiter : ℕ → Waiters → Waiters
 with_waiter ec Nobody = Only ec
 with_waiter ec (Only other) = if other == ec then Only other else Several
 with_waiter ec Several = Several
 
--- one waits no longer
+-- a context waits no longer
 abbrev pub without_waiter : ℕ → Waiters → Waiters
 without_waiter ec Nobody = Nobody
 without_waiter ec (Only other) = if other == ec then Nobody else Only other

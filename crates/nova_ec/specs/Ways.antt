@@ -1,4 +1,4 @@
--- The same in other words: ways along edges.
+-- Donation in other words: ways along edges.
 use Rattle.std.specs.Prelude.{ℕ, ◌≡◌, ◌≢◌, ◌↔◌, ◌<◌, [], ◌∷◌, ◌++◌, true, false, Option, Some, IfSome, IsSome, slice_set}
 use Rattle.nova_model.specs.State.{Contexts, ec_in}
 use Rattle.nova_model.specs.Edges.{AreEdges, after_edges, edge, edge_of, circle, acts, acts_by, is_dead, is_free, stays, chase, cpu_in}
@@ -6,7 +6,7 @@ use Rattle.nova_model.specs.declared.context.EcState.{EcState}
 use Rattle.nova_model.specs.declared.context.State.{State}
 use Rattle.nova_ec.specs.Tables.{actor_in}
 
--- a way leads from one to another
+-- a way leads from a context to another
 abbrev pub Leads : Contexts → ℕ → ℕ → Type 0
 Leads cs e f = (k : ℕ) × (after_edges k (edge cs) e ≡ Some f)
 
@@ -25,17 +25,17 @@ pub record EndsAt (cs : Contexts) (e f : ℕ) : Type 0 where
 abbrev pub ChasesEnd : Type 0
 ChasesEnd = (cs : Contexts) (e : ℕ) → AreEdges cs → EndsAt cs e (chase cs e)
 
--- from the first table to the second, turns of an execution context stay with whom they stayed, and that one acts or not as before
+-- from the first table to the second, turns of an execution context stay with the context that they stayed with, and that acts or not as before
 abbrev pub TurnsStay : Contexts → Contexts → ℕ → Type 0
 TurnsStay cs ds e = (chase ds e ≡ chase cs e) × (acts ds (chase cs e) ≡ acts cs (chase cs e))
 
--- Who does not lead to one that changes is not touched. So where one changes, only scheduling contexts of those that lead to it can
+-- A context that does not lead to one that changes is not touched. So where a context changes, only scheduling contexts of those that lead to it can
 -- become runnable or cease to be.
 abbrev pub OnlyDonorsChange : Type 0
 OnlyDonorsChange = (cs : Contexts) (e x : ℕ) (y : EcState) → AreEdges cs → IsSome (ec_in cs x) → circle cs x e ≡ false →
     TurnsStay cs (slice_set cs e (Some y)) x
 
--- a chase by its steps: it stays, or goes on from whom the edge leads to
+-- a chase by its steps: it stays, or goes on from the context that the edge leads to
 pub record IsChase (cs : Contexts) (e : ℕ) : Type 0 where
   pub ends : stays cs e ≡ true → chase cs e ≡ e
   pub goes_on : (h : ℕ) → stays cs e ≡ false → edge cs e ≡ Some h → chase cs e ≡ chase cs h
@@ -67,6 +67,6 @@ JoiningMovesNone = (cs : Contexts) (o : Option EcState) (e : ℕ) → AreEdges c
 abbrev pub OthersStay : Type 0
 OthersStay = (cs : Contexts) (e z : ℕ) (y : EcState) → AreEdges cs → cpu_in cs z ≢ cpu_in cs e → TurnsStay cs (slice_set cs e (Some y)) z
 
--- where turns stay, the same one acts in them, or none does
+-- where turns stay, the same context acts in them, or none does
 abbrev pub SameActs : Type 0
 SameActs = (cs ds : Contexts) (e : ℕ) → TurnsStay cs ds e → actor_in ds e ≡ actor_in cs e

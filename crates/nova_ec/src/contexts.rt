@@ -6,7 +6,7 @@ use nova_model::{EcState, Mark, State};
 use nova_range::Status;
 use rv_core::Regs;
 
-/// A hypercall ends: the status in x10, a value in x11, and pc after the instruction.
+/// Ends a hypercall in `regs`: `status` in x10, `value` in x11, and pc after the instruction.
 fn answer_registers(regs: &mut Regs, status: Status, value: Option<u32>)
     ensures { regs.new ≡ answered_registers regs.old status value }
 {
@@ -18,8 +18,7 @@ fn answer_registers(regs: &mut Regs, status: Status, value: Option<u32>)
     regs.set_pc(next);
 }
 
-/// A handler begins a call or an exit: its portal's identifier in x10, and pc at the portal's
-/// instruction pointer.
+/// Lets a handler begin a call or an exit in `regs`: its portal's `identifier` in x10, and pc at `ip`.
 fn enter(regs: &mut Regs, ip: u32, identifier: u32)
     ensures { regs.new ≡ entered regs.old ip identifier }
 {
@@ -27,7 +26,7 @@ fn enter(regs: &mut Regs, ip: u32, identifier: u32)
     regs.set_pc(ip);
 }
 
-/// The hypercall of an execution context ends with a status, and perhaps a value.
+/// Ends the hypercall of `context` with `status`, and perhaps `value`.
 #[inline(always)]
 pub(crate) fn end_hypercall(context: &mut EcState, status: Status, value: Option<u32>)
     ensures { context.new ≡ answered context.old status value }
@@ -36,7 +35,7 @@ pub(crate) fn end_hypercall(context: &mut EcState, status: Status, value: Option
     context.state = State::Ready;
 }
 
-/// A handler begins the call or the exit of a caller. Where a call has items it takes them first.
+/// Lets the handler `context` begin the call or the exit of `caller`. Where a call has items it takes them first.
 #[inline(always)]
 pub(crate) fn begin(
     context: &mut EcState,

@@ -10,9 +10,12 @@ ghost use Rattle.nova_ec.specs.Waiting.{IsAmong};
 ghost use Rattle.nova_model.specs.declared.context.EcState.{EcState};
 ghost use Rattle.nova_model.specs.declared.context.State.TheVariants.{Ready};
 
+mod entries;
+
 use crate::contexts::{begin, end_hypercall};
 use crate::states::{acts_by, edge_of};
 use crate::waiters::{Waiters, join, leave};
+pub use entries::Entries;
 use nova_model::{EcState, Mark, State};
 use nova_range::Status;
 use rv_core::bus::Bus;
@@ -21,9 +24,9 @@ use rv_core::{Readings, Regs, step_read};
 use std::alloc::{AllocError, Global};
 use std::marker::Model;
 
-/// The table of execution contexts, by number: an entry holds the execution context of its number or
-/// nothing. Edges, from one that waits to the handler that it waits for, join execution contexts of one processor, and
-/// never form a circle. A caller is there, and of one processor with the one that serves it. Of each is kept who may wait for it. What words read as is remembered.
+/// The table of execution contexts, by number: an entry holds the execution context of its number or nothing. Edges, from a context that waits to the
+/// handler that it waits for, join execution contexts of one processor, and never form a circle. A caller is there, and of one processor with the
+/// context that serves it. Of each is kept which contexts may wait for it. What words read as is remembered.
 #[derive(Drop)]
 pub struct Ecs {
     items: Vec<Option<EcState>>,
@@ -46,7 +49,7 @@ impl Model for Ecs {
         × (vec_len t.waiters + t.spare ≤ vec_capacity t.waiters) × (length t.waiters.items ≡ length t.items.items) × AreKnown t.items.items t.waiters.items };
 }
 
-/// One instruction of an execution context over a bus.
+/// Executes one instruction of `context` over `bus`.
 #[inline(always)]
 fn step_in<B: Bus>(context: &mut EcState, bus: &mut B, readings: &mut Readings) -> Outcome
     requires { B.room (B.state bus.old) }
@@ -81,7 +84,7 @@ impl Ecs {
         Ok(())
     }
 
-    /// The same entries in memory of their own, with no spare room.
+    /// Copies the entries into memory of their own, with no spare room.
     pub fn copy(&self) -> Result<Ecs, AllocError>
         ensures { IfOk result (λ copy. copy ≡ record { items = self.now.items; spare = 0 }) }
     {
@@ -96,8 +99,8 @@ impl Ecs {
         })
     }
 
-    /// Adds the entry of the next number in reserved room: the execution context of that number, which
-    /// waits for no other, and whose caller, where it has one, is there and of its processor; or nothing.
+    /// Adds the entry of the next number in reserved room: `ec`, the execution context of that number, or
+    /// nothing. It waits for no other, and its caller, where it has one, is there and of its processor.
     pub fn add(&mut self, ec: Option<EcState>)
         requires room { 0 < self.old.spare }
         requires number { IfSome ec (λ x. x.id ≡ length self.old.items) }
@@ -110,7 +113,7 @@ impl Ecs {
         self.spare -= 1;
     }
 
-    /// The execution context of a number; none where no execution context has it.
+    /// The execution context of number `ec`; none where no execution context has it.
     pub fn get(&self, ec: u32) -> Option<&EcState>
         ensures context { option_map (λ x. x.now) result ≡ ec_in self.now.items ec }
         ensures id { IfSome result (λ x. x.now.id ≡ ec) }
@@ -118,7 +121,7 @@ impl Ecs {
         self.items.get(ec as usize)?.as_ref()
     }
 
-    /// The execution context of a number that has one.
+    /// The execution context of number `ec`, which there is.
     pub fn context(&self, ec: u32) -> &EcState
         requires { IsSome (ec_in self.now.items ec) }
         ensures there { ec_in self.now.items ec ≡ Some result.now }
@@ -130,7 +133,7 @@ impl Ecs {
         context
     }
 
-    /// What an execution context is about to do; none where no execution context has the number.
+    /// What the execution context `ec` is about to do; none where no execution context has the number.
     fn state(&self, ec: u32) -> Option<State>
         ensures { result ≡ state_in self.now.items ec }
     {
@@ -140,14 +143,14 @@ impl Ecs {
         }
     }
 
-    /// The handler that an execution context waits for.
+    /// The handler that the execution context `ec` waits for.
     fn edge(&self, ec: u32) -> Option<u32>
         ensures { result ≡ edge self.now.items ec }
     {
         edge_of(self.state(ec)?)
     }
 
-    /// Who may wait for an execution context. Once several waited for it at a time, several may from then on.
+    /// The execution contexts that may wait for `ec`. Once several waited for it at a time, several may from then on.
     pub fn waiters(&self, ec: u32) -> Waiters
         ensures { (z : ℕ) → edge self.now.items z ≡ Some ec → IsAmong z result }
     {
@@ -157,7 +160,7 @@ impl Ecs {
         }
     }
 
-    /// Whether an execution context is there and acts.
+    /// Whether the execution context `ec` is there and acts.
     pub fn acts(&self, ec: u32) -> bool
         ensures acts { result ≡ acts self.now.items ec }
         ensures there { result ≡ true → IsSome (ec_in self.now.items ec) }
@@ -172,7 +175,8 @@ impl Ecs {
         acts_by(state, handler)
     }
 
-    /// Whether following edges from the handler meets the execution context; the handler itself counts.
+    /// Whether following edges from `handler` meets `ec`; the handler itself counts.
+    #[inline(always)]
     pub fn circle(&self, handler: u32, ec: u32) -> bool
         ensures { result ≡ circle self.now.items handler ec }
     {
@@ -189,21 +193,21 @@ impl Ecs {
         false
     }
 
-    /// Edges join execution contexts of one processor, and never form a circle.
+    /// Tells that edges join execution contexts of one processor, and never form a circle.
     pub fn keeps_edges(&self)
         ensures { AreEdges self.now.items }
     {
         let _spare = self.spare;
     }
 
-    /// Callers are there, and of one processor with those who serve them.
+    /// Tells that callers are there, and of one processor with the contexts that serve them.
     pub fn keeps_callers(&self)
         ensures { AreCallers self.now.items }
     {
         let _spare = self.spare;
     }
 
-    /// The end of a chase, and whether the execution context there acts.
+    /// The end of the chase from `ec`, and whether the execution context there acts.
     fn end_of_chase(&self, ec: u32) -> (u32, bool)
         ensures end { result.0 ≡ chase self.now.items ec }
         ensures acts { result.1 ≡ acts self.now.items result.0 }
@@ -219,16 +223,14 @@ impl Ecs {
         (at, true)
     }
 
-    /// The execution context with which the turns of another stay: the first on its way along edges
-    /// that acts or has no edge.
+    /// The execution context with which the turns of `ec` stay: the first on its way along edges that acts or has no edge.
     pub fn chase(&self, ec: u32) -> u32
         ensures { result ≡ chase self.now.items ec }
     {
         self.end_of_chase(ec).0
     }
 
-    /// The execution context that acts in the turns of another: the end of its chase, where that one
-    /// acts.
+    /// The execution context that acts in the turns of `ec`: the end of its chase, where that acts.
     pub fn actor(&self, ec: u32) -> Option<u32>
         ensures actor { result ≡ actor_in self.now.items ec }
         ensures there { IfSome result (λ actor. IsSome (ec_in self.now.items actor)) }
@@ -237,7 +239,8 @@ impl Ecs {
         if is_acting { Some(end) } else { None }
     }
 
-    /// Whether both are there, on one processor.
+    /// Whether the execution contexts `a` and `b` are both there, on one processor.
+    #[inline(always)]
     pub fn share_processor(&self, a: u32, b: u32) -> bool
         ensures { result ≡ is_same_cpu (cpu_in self.now.items a) (cpu_in self.now.items b) }
     {
@@ -247,8 +250,8 @@ impl Ecs {
         }
     }
 
-    /// Whether no reply of a handler can come to another: the handler is dead, or following edges from it
-    /// meets the other.
+    /// Whether no reply of `handler` can come to `ec`: the handler is dead, or following edges from it meets `ec`.
+    #[inline(always)]
     pub fn is_lost(&self, handler: u32, ec: u32) -> bool
         ensures { result ≡ (is_dead (state_in self.now.items handler) || circle self.now.items handler ec) }
     {
@@ -256,15 +259,16 @@ impl Ecs {
             || self.circle(handler, ec)
     }
 
-    /// Whether an execution context waits for a call.
+    /// Whether the execution context `ec` waits for a call.
+    #[inline(always)]
     pub fn is_parked(&self, ec: u32) -> bool
         ensures { result ≡ is_parked (state_in self.now.items ec) }
     {
         matches!(self.get(ec), Some(context) if matches!(context.state, State::Parked))
     }
 
-    /// An execution context is about to do another thing. Where it is to wait for a handler, that one
-    /// is of the same processor, and no circle closes.
+    /// Sets what the execution context `ec` is about to do to `state`. Where it is to wait for a handler, the
+    /// handler is of the same processor, and no circle closes.
     pub fn set_state(&mut self, ec: u32, state: State)
         requires there { IsSome (ec_in self.old.items ec) }
         requires edge { MayWait self.old.items ec (edge_of state) }
@@ -278,7 +282,7 @@ impl Ecs {
         context.state = state;
     }
 
-    /// Other registers.
+    /// Sets the registers of the execution context `ec` to `regs`.
     pub fn set_regs(&mut self, ec: u32, regs: &Regs)
         requires { IsSome (ec_in self.old.items ec) }
         ensures { self.new ≡ with_items self.old (with_ec self.old.items ec (record (ec_of self.old.items ec) { regs = regs.now })) }
@@ -289,7 +293,7 @@ impl Ecs {
         context.regs = *regs;
     }
 
-    /// Whether a recall is asked for.
+    /// Sets whether a recall of the execution context `ec` is asked for.
     pub fn set_recall(&mut self, ec: u32, recall: bool)
         requires { IsSome (ec_in self.old.items ec) }
         ensures { self.new ≡ with_items self.old (with_ec self.old.items ec (record (ec_of self.old.items ec) { recall = recall })) }
@@ -300,8 +304,7 @@ impl Ecs {
         context.recall = recall;
     }
 
-    /// The caller that an execution context serves from now on: one that is there and of its processor, or
-    /// none.
+    /// Sets the caller that the execution context `ec` serves from now on: a context that is there and of its processor, or none.
     pub fn set_caller(&mut self, ec: u32, caller: Option<(u32, Mark)>)
         requires there { IsSome (ec_in self.old.items ec) }
         requires caller { MayServe self.old.items ec caller }
@@ -313,8 +316,7 @@ impl Ecs {
         context.caller = caller;
     }
 
-    /// The hypercall of an execution context ends with a status, and perhaps a value: its next is the
-    /// instruction after it.
+    /// Ends the hypercall of the execution context `ec` with `status`, and perhaps `value`: its next is the instruction after the call.
     pub fn answer(&mut self, ec: u32, status: Status, value: Option<u32>)
         requires { IsSome (ec_in self.old.items ec) }
         ensures { self.new ≡ with_items self.old (with_ec self.old.items ec (answered (ec_of self.old.items ec) status value)) }
@@ -326,7 +328,7 @@ impl Ecs {
         end_hypercall(context, status, value);
     }
 
-    /// An execution context whose exit is answered goes on, with these registers.
+    /// Lets the execution context `ec`, whose exit is answered, go on with the registers `regs`.
     pub fn resume(&mut self, ec: u32, regs: &Regs)
         requires { IsSome (ec_in self.old.items ec) }
         ensures { self.new ≡ with_items self.old (with_ec self.old.items ec (record (ec_of self.old.items ec) { regs = regs.now; state = Ready })) }
@@ -339,7 +341,7 @@ impl Ecs {
         context.state = State::Ready;
     }
 
-    /// A handler waits for a call, and serves no caller.
+    /// Parks the handler `ec`: it waits for a call, and serves no caller.
     pub fn park(&mut self, ec: u32)
         requires { IsSome (ec_in self.old.items ec) }
         ensures { self.new ≡ with_items self.old (with_ec self.old.items ec (parked (ec_of self.old.items ec))) }
@@ -352,8 +354,8 @@ impl Ecs {
         context.caller = None;
     }
 
-    /// A handler begins the call or the exit of a caller of its processor: at an instruction pointer, with a
-    /// portal's identifier in x10. Where a call has items it takes them first.
+    /// Lets the handler `ec` begin the call or the exit of `caller`, which is of its processor, at `ip`, with
+    /// the portal's `identifier` in x10. Where a call has items it takes them first.
     pub fn serve(&mut self, ec: u32, caller: u32, mark: Mark, ip: u32, identifier: u32, items: bool)
         requires there { IsSome (ec_in self.old.items ec) }
         requires caller { MayServe self.old.items ec (Some (caller, mark)) }
@@ -366,8 +368,7 @@ impl Ecs {
         begin(context, caller, mark, ip, identifier, items);
     }
 
-    /// One instruction of an execution context over a bus. A raise leaves its registers, and the bus,
-    /// as they were.
+    /// Executes one instruction of the execution context `ec` over `bus`. A raise leaves its registers, and the bus, as they were.
     pub fn step<B: Bus>(&mut self, ec: u32, bus: &mut B) -> Outcome
         requires there { IsSome (ec_in self.old.items ec) }
         requires room { B.room (B.state bus.old) }

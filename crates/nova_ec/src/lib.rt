@@ -1,4 +1,4 @@
-//! Execution contexts at work, and whom they wait for.
+//! Execution contexts at work, and the handlers that they wait for.
 #![tactic(auto)]
 
 mod contexts;
@@ -7,6 +7,6 @@ pub mod laws;
 mod states;
 pub mod waiters;
 
-pub use ecs::Ecs;
+pub use ecs::{Ecs, Entries};
 pub use nova_model::{EcState, Mark, State};
 pub use waiters::Waiters;

@@ -4,7 +4,7 @@ ghost use Rattle.nova_model.specs.declared.context.State.TheVariants.{Granting, 
 
 use nova_model::State;
 
-/// The handler that an execution context in this state waits for.
+/// The handler that an execution context in `state` waits for.
 #[inline(always)]
 pub(crate) fn edge_of(state: State) -> Option<u32>
     ensures { result ≡ edge_of state }
@@ -25,7 +25,7 @@ pub(crate) fn edge_of(state: State) -> Option<u32>
     }
 }
 
-/// Whether an execution context in the first state acts, where its handler is in the second.
+/// Whether an execution context in `state` acts, where its handler is in the state `handler`.
 pub(crate) fn acts_by(state: State, handler: Option<State>) -> bool
     ensures { result ≡ acts_by state handler }
 {

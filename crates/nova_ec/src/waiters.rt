@@ -1,7 +1,7 @@
 ghost use Rattle.std.specs.Prelude.{◌≡◌, Some, vec_capacity, vec_len};
 ghost use Rattle.nova_ec.specs.Waiting.{changed, with_waiter, without_waiter};
 
-/// Who may wait for a handler: nobody, one alone, or perhaps several.
+/// The contexts that may wait for a handler: none, one alone, or perhaps several.
 #[derive(Clone, Copy)]
 pub enum Waiters {
     Nobody,
@@ -10,7 +10,7 @@ pub enum Waiters {
 }
 
 impl Waiters {
-    /// With another one.
+    /// These waiters and `ec`.
     fn with(self, ec: u32) -> Waiters
         ensures { result ≡ with_waiter ec self }
     {
@@ -21,7 +21,7 @@ impl Waiters {
         }
     }
 
-    /// Without this one. Of several nobody knows how many they were.
+    /// These waiters without `ec`; `Several` stays, since how many they were is not kept.
     fn without(self, ec: u32) -> Waiters
         ensures { result ≡ without_waiter ec self }
     {
@@ -32,7 +32,7 @@ impl Waiters {
     }
 }
 
-/// One more comes to wait for a handler.
+/// Adds `ec`, which comes to wait for `handler`, to its waiters.
 fn add(waiters: &mut Vec<Waiters>, handler: u32, ec: u32)
     ensures items { waiters.new.items ≡ changed (with_waiter ec) (Some handler) waiters.old.items }
     ensures len { vec_len waiters.new ≡ vec_len waiters.old }
@@ -43,7 +43,7 @@ fn add(waiters: &mut Vec<Waiters>, handler: u32, ec: u32)
     }
 }
 
-/// One waits for a handler no longer.
+/// Takes `ec`, which waits for `handler` no longer, out of its waiters.
 fn remove(waiters: &mut Vec<Waiters>, handler: u32, ec: u32)
     ensures items { waiters.new.items ≡ changed (without_waiter ec) (Some handler) waiters.old.items }
     ensures len { vec_len waiters.new ≡ vec_len waiters.old }
@@ -54,7 +54,7 @@ fn remove(waiters: &mut Vec<Waiters>, handler: u32, ec: u32)
     }
 }
 
-/// An execution context comes to wait for a handler, where it does for one.
+/// Adds `ec` to the waiters of `handler`, where there is one.
 #[inline(always)]
 pub(crate) fn join(waiters: &mut Vec<Waiters>, handler: Option<u32>, ec: u32)
     ensures items { waiters.new.items ≡ changed (with_waiter ec) handler waiters.old.items }
@@ -66,7 +66,7 @@ pub(crate) fn join(waiters: &mut Vec<Waiters>, handler: Option<u32>, ec: u32)
     }
 }
 
-/// It no longer waits for the handler.
+/// Takes `ec`, which no longer waits for `handler`, out of its waiters.
 #[inline(always)]
 pub(crate) fn leave(waiters: &mut Vec<Waiters>, handler: Option<u32>, ec: u32)
     ensures items { waiters.new.items ≡ changed (without_waiter ec) handler waiters.old.items }

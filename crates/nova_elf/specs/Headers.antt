@@ -16,7 +16,7 @@ header_at bytes place = record {
   memory = word bytes (place + 20);
 }
 
--- so many headers from a place on, each of 32 bytes
+-- as many headers as the number says from `place` on, each of 32 bytes
 abbrev pub headers_from : List ℕ → ℕ → ℕ → List Header
 headers_from bytes place zero = []
 headers_from bytes place (suc n) = header_at bytes place ∷ headers_from bytes (place + 32) n
@@ -37,7 +37,7 @@ is_dynamic h = h.kind == 2 || h.kind == 3
 abbrev pub is_loaded : Header → Bool
 is_loaded h = h.kind == 1
 
--- one that reaches past so many bytes, has less memory than bytes, or reaches past the last address
+-- a segment that reaches past `len` bytes, has less memory than bytes, or reaches past the last address
 abbrev pub has_bad_segment : ℕ → Header → Bool
 has_bad_segment len h = is_loaded h && (nat_lt len (h.offset + h.file) || (nat_lt h.memory h.file || nat_lt (2 ^ 32) (h.address + h.memory)))
 

@@ -3,7 +3,7 @@ ghost use Rattle.nova_elf.specs.Fields.{half, word};
 
 use byteorder::{ByteOrder, LittleEndian};
 
-/// The half word at a place, the lowest byte first.
+/// The half word of `bytes` at `place`, the lowest byte first.
 #[tactic(auto, unfolding(crate::specs::Fields::half))]
 pub fn half(bytes: &[u8], place: usize) -> u16
     requires { place + 2 ≤ length bytes.now }
@@ -13,7 +13,7 @@ pub fn half(bytes: &[u8], place: usize) -> u16
     LittleEndian::read_u16(rest)
 }
 
-/// The word at a place, the lowest byte first.
+/// The word of `bytes` at `place`, the lowest byte first.
 #[tactic(auto, unfolding(crate::specs::Fields::word))]
 pub fn word(bytes: &[u8], place: usize) -> u32
     requires { place + 4 ≤ length bytes.now }

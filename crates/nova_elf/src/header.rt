@@ -25,7 +25,7 @@ pub struct Header {
 }
 
 impl Header {
-    /// The header at a place.
+    /// The program header of `bytes` at `place`.
     pub fn at(bytes: &[u8], place: usize) -> Header
         requires { place + 32 ≤ length bytes.now }
         ensures { result ≡ header_at bytes.now place }
@@ -46,14 +46,14 @@ impl Header {
         self.kind == 2 || self.kind == 3
     }
 
-    /// Whether it has a segment.
+    /// Whether the header describes a segment: it is of type 1.
     pub fn is_loaded(self) -> bool
         ensures { result ≡ is_loaded self }
     {
         self.kind == 1
     }
 
-    /// Whether its segment can't be laid into memory from so many bytes.
+    /// Whether its segment can't be laid into memory from a file of `len` bytes.
     fn has_bad_segment(self, len: u64) -> bool
         ensures { result ≡ has_bad_segment len self }
     {
@@ -63,7 +63,7 @@ impl Header {
                 || 1 << 32 < u64::from(self.address) + u64::from(self.memory))
     }
 
-    /// Its fault, where it is the header of this number in so many bytes.
+    /// The fault of the header, where it is header `index` of a file of `len` bytes.
     pub fn fault(self, len: u64, index: u32) -> Option<ElfFault>
         ensures { result ≡ fault_in len index self }
     {
@@ -76,7 +76,7 @@ impl Header {
         }
     }
 
-    /// Its segment.
+    /// The segment of the header.
     pub fn segment(self) -> Segment
         ensures { result ≡ segment_of self }
     {

@@ -9,7 +9,7 @@ use crate::header::Header;
 use crate::program::Segment;
 use std::alloc::{AllocError, Global};
 
-/// The header of a number.
+/// The program header of number `index`.
 fn header(bytes: &[u8], index: u16) -> Header
     requires table { HasTable bytes.now }
     requires there { index < half bytes.now 44 }
@@ -18,7 +18,7 @@ fn header(bytes: &[u8], index: u16) -> Header
     Header::at(bytes, word(bytes, 28) as usize + 32 * index as usize)
 }
 
-/// The first fault of the headers.
+/// The first fault of the program headers of `bytes`.
 #[tactic(auto, using(crate::proofs::HeaderLemmas::all_left, crate::proofs::HeaderLemmas::none_left, crate::proofs::HeaderLemmas::one_left))]
 pub fn header_fault(bytes: &[u8]) -> Option<ElfFault>
     requires { HasTable bytes.now }
@@ -33,7 +33,7 @@ pub fn header_fault(bytes: &[u8]) -> Option<ElfFault>
     None
 }
 
-/// Appends the segment of a header, if it has one.
+/// Appends the segment of `header`, if it has one.
 fn push_segment(segments: &mut Vec<Segment>, header: Header) -> Result<(), AllocError>
     ensures { OnOk result (segments.new.items ≡ segments.old.items ++ segments_of (header ∷ [])) }
 {
@@ -43,7 +43,7 @@ fn push_segment(segments: &mut Vec<Segment>, header: Header) -> Result<(), Alloc
     Ok(())
 }
 
-/// The segments of the headers.
+/// The segments of the program headers of `bytes`.
 #[tactic(auto, using(crate::proofs::HeaderLemmas::all_left, crate::proofs::HeaderLemmas::none_left, crate::proofs::HeaderLemmas::one_left, crate::proofs::HeaderLemmas::one_more))]
 pub fn segments(alloc: Global, bytes: &[u8]) -> Result<Vec<Segment>, AllocError>
     requires { HasTable bytes.now }

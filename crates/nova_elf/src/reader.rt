@@ -17,7 +17,7 @@ const HEADER_LEN: u16 = 32;
 /// What the number of a half word stands for where it is too large for one.
 const TOO_MANY: u16 = 65535;
 
-/// Whether bytes do not begin with a file header.
+/// Whether `bytes` do not begin with a file header.
 fn is_not_elf(bytes: &[u8]) -> bool
     ensures { result ≡ is_not_elf bytes.now }
 {
@@ -28,7 +28,7 @@ fn is_not_elf(bytes: &[u8]) -> bool
     magic != b"\x7fELF".as_slice()
 }
 
-/// Whether the program headers are not counted in their place, are of another length, or reach past the end.
+/// Whether the program headers of `bytes` are not counted in their place, are of another length, or reach past the end.
 fn has_bad_table(bytes: &[u8]) -> bool
     requires { 52 ≤ length bytes.now }
     ensures { result ≡ has_bad_table bytes.now }
@@ -38,7 +38,7 @@ fn has_bad_table(bytes: &[u8]) -> bool
     0 < count && (count == TOO_MANY || half(bytes, 42) != HEADER_LEN || (bytes.len() as u64) < end)
 }
 
-/// The first fault of the file header.
+/// The first fault of the file header of `bytes`.
 fn head_fault(bytes: &[u8]) -> Option<ElfFault>
     ensures fault { result ≡ head_fault bytes.now }
     ensures table { result ≡ None → HasTable bytes.now }
@@ -62,7 +62,7 @@ fn head_fault(bytes: &[u8]) -> Option<ElfFault>
     }
 }
 
-/// Reads an executable.
+/// Reads `bytes` as an executable.
 ///
 /// A fault comes exactly where the bytes are no executable, and is the first one. `Memory` comes where memory is refused, and only for
 /// an executable.

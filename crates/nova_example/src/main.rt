@@ -33,7 +33,7 @@ end
 /// How many turns the machine may take.
 const TURNS: u32 = 1_000;
 
-/// Steps a machine until it has said its word, and tells how that went.
+/// Steps the machine `kernel` until it has said its word, and tells how that went.
 fn tell(rt: HostRuntime, kernel: &mut Kernel, most: u32) -> io::Result<()>
     requires cpu { 0 < kernel.old.state.cpus }
     requires room { most ≤ kernel.old.room }
@@ -43,7 +43,7 @@ fn tell(rt: HostRuntime, kernel: &mut Kernel, most: u32) -> io::Result<()>
     println!(rt; "said: {said}, after {} turns", kernel.turns())
 }
 
-/// Boots a machine, and steps it.
+/// Boots the machine of `scenario`, and steps it.
 fn run(rt: HostRuntime, scenario: &Scenario) -> io::Result<()>
     requires { IsSound scenario.now }
 {

@@ -5,7 +5,7 @@ ghost use Rattle.nova_example.specs.Said.{bytes_of, has_said};
 use nova_kernel::{Kernel, LogByte};
 use std::alloc::{AllocError, Global};
 
-/// The bytes that a console got, in order.
+/// The bytes that the console `console` got, in order.
 fn bytes_of(alloc: Global, log: &[LogByte], console: u32) -> Result<Vec<u8>, AllocError>
     ensures { IfOk result (λ bytes. bytes.items ≡ bytes_of console log.now) }
 {
@@ -18,7 +18,7 @@ fn bytes_of(alloc: Global, log: &[LogByte], console: u32) -> Result<Vec<u8>, All
     Ok(bytes)
 }
 
-/// Whether the last bytes that a console got are a word.
+/// Whether the last bytes that `console` got are `word`.
 pub fn has_said(
     alloc: Global,
     kernel: &Kernel,

@@ -5,8 +5,8 @@ use crate::said::has_said;
 use nova_kernel::{Kernel, Turn};
 use std::alloc::{AllocError, Global};
 
-/// Takes turns of a processor until a console has said a word, which is looked at before each turn: at most `most` turns, and
-/// fewer where the processor is idle. The answer is whether the word was said.
+/// Takes turns of the processor `cpu` until `console` has said `word`, which is looked at before each turn: at most `most` turns, and fewer where the
+/// processor is idle. The answer is whether the word was said.
 pub fn run_until_said(
     alloc: Global,
     kernel: &mut Kernel,

@@ -19,7 +19,7 @@ wait_edge cs e h is = let waits = handlers.may_wait cs e h ((exit_waits cs e h).
 pub send_edge : (cs : Contexts) (e h : ℕ) → exit_admitted cs e h ≡ answer.Sends → IsNewEdge cs e h × IsSome (ec_in cs e) × IsSome (ec_in cs h)
 send_edge cs e h is = handlers.may_wait cs e h (may_reply cs e h is)
 
--- the handler is still there, and who raised the exit on its processor
+-- the handler is still there, and the context that raised the exit on its processor
 pub handler_stays : (cs : Contexts) (e h : ℕ) (state : State) → exit_admitted cs e h ≡ answer.Sends → IsSome (ec_in (turned_to cs e state) h)
 handler_stays cs e h state is = handlers.handler_stays cs e h state (may_reply cs e h is)
 

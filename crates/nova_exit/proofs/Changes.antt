@@ -22,7 +22,7 @@ use Rattle.nova_ec.proofs.Handlers.{both_second}
 use Rattle.nova_exit.specs.Effects.{written_back_among}
 use Rattle.nova_exit.specs.Reaching.{AreBack, GoesOn}
 
--- registers stay where one is about to do another thing, whether it is there or not
+-- registers stay where a context is about to do another thing, whether it is there or not
 turned_registers : (cs : Contexts) (e : ℕ) (state : State) → (ec_of (turned_to cs e state) e).regs ≡ (ec_of cs e).regs
 turned_registers [] e state = refl
 turned_registers (c ∷ cs) zero state = refl

@@ -17,7 +17,7 @@ raised_among cs ec reason q0 q1 = turned_to cs ec (Exiting reason q0 q1)
 abbrev pub waiting_among : Contexts → ℕ → ℕ → ℕ → ℕ → ℕ → Contexts
 waiting_among cs ec handler reason q0 q1 = turned_to cs ec (Sending reason q0 q1 handler)
 
--- an exit is sent: who raised it waits for the handler, and the handler serves it
+-- an exit is sent: the context that raised it waits for the handler, and the handler serves it
 abbrev pub sent_among : Contexts → ℕ → ℕ → ℕ → ℕ → Contexts
 sent_among cs ec handler ip identifier = with_sent cs ec handler Exit ip identifier false
 

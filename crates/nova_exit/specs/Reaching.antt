@@ -21,7 +21,7 @@ pub record AreBack (r s : Registers) (m : List ℕ) : Type 0 where
   pub high : (i : ℕ) → 16 ≤ i → i ≤ 31 → reg s i ≡ (if names (groups_in m) HIGH then word m (8 + i) else reg r i)
   pub file : IsFile s
 
--- one whose exit was answered with this message
+-- a context whose exit was answered with the message `m`
 pub record GoesOn (x y : EcState) (m : List ℕ) : Type 0 where
   pub same : IsSame x y
   pub caller : y.caller ≡ x.caller

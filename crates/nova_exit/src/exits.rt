@@ -12,8 +12,7 @@ use nova_model::ExitAdmit;
 use nova_range::Mtd;
 use nova_utcb::Utcb;
 
-/// An execution context raises an exit, by reason and two qualifications: it is then `Exiting`, and its
-/// registers stay.
+/// Raises an exit of the execution context `ec`, by `reason` and two qualifications: it is then `Exiting`, and its registers stay.
 pub fn raise(ecs: &mut Ecs, ec: u32, reason: u32, q0: u32, q1: u32)
     requires { IsSome (ec_in ecs.old.items ec) }
     ensures { ecs.new ≡ with_items ecs.old (raised_among ecs.old.items ec reason q0 q1) }
@@ -21,9 +20,9 @@ pub fn raise(ecs: &mut Ecs, ec: u32, reason: u32, q0: u32, q1: u32)
     ecs.set_state(ec, State::Exiting(reason, q0, q1));
 }
 
-/// What comes of an exit at the handler of the portal that was found for it. The first of these holds:
-/// `Dies` where one of both isn't there, they are on two processors, the handler is dead, or following
-/// edges from it meets who raised the exit; `Sends` where it is parked; else `Waits`.
+/// What comes of an exit of `ec` at `handler`, that of the portal that was found for it. The first of these
+/// holds: `Dies` where either isn't there, they are on two processors, the handler is dead, or following edges
+/// from it meets `ec`; `Sends` where it is parked; else `Waits`.
 pub fn admit(ecs: &Ecs, ec: u32, handler: u32) -> ExitAdmit
     ensures { result ≡ exit_admitted ecs.now.items ec handler }
 {
@@ -37,8 +36,7 @@ pub fn admit(ecs: &Ecs, ec: u32, handler: u32) -> ExitAdmit
     }
 }
 
-/// An exit found its handler busy: who raised it is then `Sending`, with the exit's reason and
-/// qualifications, and nothing else changes.
+/// Makes `ec`, whose exit found `handler` busy, `Sending`, with the exit's reason and qualifications; nothing else changes.
 #[tactic(auto, using(crate::proofs::Admits::wait_edge))]
 pub fn wait(ecs: &mut Ecs, ec: u32, handler: u32, reason: u32, q0: u32, q1: u32)
     requires { exit_admitted ecs.old.items ec handler ≡ Waits }
@@ -47,10 +45,9 @@ pub fn wait(ecs: &mut Ecs, ec: u32, handler: u32, reason: u32, q0: u32, q1: u32)
     ecs.set_state(ec, State::Sending(reason, q0, q1, handler));
 }
 
-/// Sends an exit that is raised and not sent to a handler that takes it. The handler finds its message:
-/// the groups that the descriptor names, of the exit's qualifications and of the registers of who raised
-/// it, who is then `Calling` the handler. The handler serves it by an exit: it begins at `ip` with the
-/// portal's identifier in x10.
+/// Sends the exit that `ec` raised to `handler`, which takes it. The handler finds its message: the groups that
+/// the descriptor names, of the exit's qualifications and of the registers of `ec`, which is then `Calling` the
+/// handler. The handler serves it by an exit: it begins at `ip` with the portal's identifier in x10.
 #[tactic(auto, using(crate::proofs::Admits::send_edge, crate::proofs::Admits::handler_stays, crate::proofs::Admits::may_serve))]
 pub fn send(ecs: &mut Ecs, to: &mut Utcb, ec: u32, handler: u32, ip: u32, id: u32, mtd: Mtd)
     requires taken { exit_admitted ecs.old.items ec handler ≡ Sends }
@@ -66,7 +63,7 @@ pub fn send(ecs: &mut Ecs, to: &mut Utcb, ec: u32, handler: u32, ip: u32, id: u3
     ecs.serve(handler, ec, Mark::Exit, ip, id, false);
 }
 
-/// An execution context ends: it is then `Dead`, and all else of it stays.
+/// Ends the execution context `ec`: it is then `Dead`, and all else of it stays.
 pub fn die(ecs: &mut Ecs, ec: u32)
     requires { IsSome (ec_in ecs.old.items ec) }
     ensures { ecs.new ≡ with_items ecs.old (dead_among ecs.old.items ec) }

@@ -20,8 +20,8 @@ ghost use Rattle.nova_ec.specs.Tables.{turned_to};
 ghost use Rattle.nova_exit.specs.Effects.{raised_among, waiting_among, sent_among, dead_among, written_back_among};
 ghost use Rattle.nova_exit.specs.Reaching.{Serves, GoesOn};
 
-/// Each answer to an exit comes exactly where its condition is the first that holds: `Dies` where both
-/// aren't there on one processor, or no reply can come; `Sends` where the handler waits for a call; and
+/// Each answer to an exit comes exactly where its condition is the first that holds. These are `Dies` where
+/// both aren't there on one processor, or no reply can come; `Sends` where the handler waits for a call; and
 /// `Waits` where it is busy.
 pub fn answers_come_in_order()
     ensures dies { (cs : Contexts) (ec handler : ℕ) →
@@ -32,8 +32,8 @@ pub fn answers_come_in_order()
         (exit_admitted cs ec handler ≡ answer.Waits) ↔ (MayReply cs ec handler × (IsWaiting cs handler → ⊥)) }
 {}
 
-/// One that raises an exit, one whose exit waits and one that dies has another state, and nothing else
-/// changes. An exit that was raised, and one that waits, has its reason and both qualifications.
+/// Where a context raises an exit, its exit waits, or it dies, its state changes and nothing else. An exit that
+/// was raised, and an exit that waits, has its reason and both qualifications.
 pub fn exits_change_a_state()
     ensures raised { (cs : Contexts) (ec reason q0 q1 : ℕ) → IsSome (ec_in cs ec) →
         ec_in (raised_among cs ec reason q0 q1) ec ≡ Some (record (ec_of cs ec) { state = Exiting reason q0 q1 }) }
@@ -46,8 +46,8 @@ pub fn exits_change_a_state()
         (raised_exit (Exiting reason q0 q1) ≡ Some (reason, q0, q1)) × (raised_exit (Sending reason q0 q1 handler) ≡ Some (reason, q0, q1)) }
 {}
 
-/// An exit that is sent changes the state of who raised it, and of the handler the state, the caller,
-/// pc and x10. Nothing else changes, of both and of all others.
+/// An exit that is sent changes the state of the context that raised it, and of the handler the state, the
+/// caller, pc and x10. Nothing else changes, of both and of all others.
 pub fn sent_exits_change_both()
     ensures caller { (cs : Contexts) (ec handler ip identifier : ℕ) → exit_admitted cs ec handler ≡ answer.Sends →
         ec_in (sent_among cs ec handler ip identifier) ec ≡ Some (record (ec_of cs ec) { state = Calling handler }) }
@@ -59,8 +59,8 @@ pub fn sent_exits_change_both()
         e ≢ ec → e ≢ handler → ec_in (sent_among cs ec handler ip identifier) e ≡ ec_in cs e }
 {}
 
-/// A reply to an exit parks the handler, without a caller. Its caller goes on: of the registers those
-/// of the groups that the message names have their words, and the others stay. Nobody else changes.
+/// A reply to an exit parks the handler, without a caller, and its caller goes on. Registers of the groups that the message names are set from its
+/// words, all others stay, and no other context changes.
 pub fn replies_write_back()
     ensures handler { (cs : Contexts) (handler caller : ℕ) (m : List ℕ) → IsSome (ec_in cs handler) → handler ≢ caller →
         ec_in (written_back_among cs handler caller m) handler ≡ Some (parked (ec_of cs handler)) }
@@ -71,9 +71,10 @@ pub fn replies_write_back()
         ec_in (written_back_among cs handler caller m) e ≡ ec_in cs e }
 {}
 
-/// The deeds of a turn change the table of execution contexts as these calls do: an exit that waits,
-/// one that is sent, one that ends who raised it, one whose handler is dead, and a reply to an exit
-/// without items or after its last. One that is sent puts its message into the words of its handler.
+/// The deeds of a turn change the table of execution contexts as these calls do. The deeds are an exit that
+/// waits, an exit that is sent, an exit that ends the context that raised it, an exit whose handler is dead,
+/// and a reply to an exit without items or after its last. An exit that is sent puts its message into the words
+/// of its handler.
 pub fn deeds_change_the_table_so()
     ensures waits { (k : KernelState) (ec handler reason q0 q1 : ℕ) →
         (performed k ec (Waits handler reason q0 q1)).contexts ≡ waiting_among k.contexts ec handler reason q0 q1 }

@@ -1,5 +1,4 @@
-//! Exits of execution contexts: how one is raised, whom it reaches, its message, and the reply that
-//! writes back.
+//! Exits of execution contexts: how one is raised, which handler it reaches, its message, and the reply that writes back.
 #![tactic(auto)]
 
 mod exits;

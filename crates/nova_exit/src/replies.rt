@@ -5,9 +5,9 @@ ghost use Rattle.nova_exit.specs.Effects.{served_exit, replied_among};
 use nova_ec::Ecs;
 use nova_utcb::Utcb;
 
-/// A reply to an exit is complete. The handler, which serves one, is parked, without a caller and with
-/// its registers. Of its caller's registers those groups are written back that the handler's message
-/// names, and the caller is `Ready`.
+/// Completes the reply of `handler` to an exit, whose words are `message`. The handler, which serves one, is
+/// parked, without a caller and with its registers. Of its caller's registers those groups are written back
+/// that the handler's message names, and the caller is `Ready`.
 pub fn write_back(ecs: &mut Ecs, message: &Utcb, handler: u32)
     requires { IsSome (served_exit ecs.old.items handler) }
     ensures { ecs.new ≡ with_items ecs.old (replied_among ecs.old.items handler message.now (served_exit ecs.old.items handler)) }

@@ -12,8 +12,8 @@ use std::marker::Model;
 /// How many bytes a frame has.
 pub const FRAME_SIZE: usize = 4096;
 
-/// The frames of a machine, by number: RAM from 0 on, and after it a frame for each console. What
-/// is stored to the consoles goes to one log, with room for so many bytes more.
+/// The frames of a machine, by number: RAM from 0 on, and after it a frame for each console. What is stored to
+/// the consoles goes to one log, with room for `room` bytes more.
 #[derive(Drop)]
 pub struct Frames {
     ram: Vec<[u8; FRAME_SIZE]>,
@@ -39,9 +39,9 @@ impl Model for Frames {
 }
 
 impl Frames {
-    /// `2^ram_order` RAM frames of zeros, so many consoles, and an empty log that takes `log_room`
-    /// bytes. The order is at most 14, and there are at most 16 consoles. More room than an
-    /// allocation can hold counts as out of memory.
+    /// `2^ram_order` RAM frames of zeros, `consoles` consoles, and an empty log that takes `log_room` bytes.
+    /// The order is at most 14, and there are at most 16 consoles. More room than an allocation can hold counts
+    /// as out of memory.
     pub fn new(
         alloc: Global,
         ram_order: u8,
@@ -68,7 +68,7 @@ impl Frames {
         })
     }
 
-    /// The same RAM, consoles and log in memory of their own. The copy's log has no room for more bytes.
+    /// Copies RAM, consoles and log into memory of their own. The copy's log has no room for more bytes.
     pub fn copy(&self) -> Result<Frames, AllocError>
         ensures memory { IfOk result (λ copy. copy.memory ≡ self.now.memory) }
         ensures consoles { IfOk result (λ copy. copy.consoles ≡ self.now.consoles) }
@@ -125,7 +125,7 @@ impl Frames {
         self.log.as_slice()
     }
 
-    /// The bytes of a RAM frame.
+    /// The bytes of the RAM frame `frame`.
     pub fn frame(&self, frame: u32) -> &[u8]
         requires { frame < length self.now.memory.ram }
         ensures bytes { slice_get self.now.memory.ram frame ≡ Some result.now }
@@ -134,7 +134,7 @@ impl Frames {
         &self.ram[frame as usize]
     }
 
-    /// Replaces the bytes of a RAM frame.
+    /// Replaces the bytes of the RAM frame `frame` by `bytes`.
     pub fn write_frame(&mut self, frame: u32, bytes: &[u8])
         requires there { frame < length self.old.memory.ram }
         requires size { length bytes.now ≡ FRAME_SIZE }
@@ -145,9 +145,8 @@ impl Frames {
         self.ram[frame as usize].copy_from_slice(bytes);
     }
 
-    /// The number in the 1, 2 or 4 bytes of a frame from an offset on, the lowest byte first (RV32I
-    /// manual, loads). A console gives 0. The frame exists, and the offset is a multiple of the
-    /// width.
+    /// The number in the `width` bytes, 1, 2 or 4, of `frame` from `offset` on, the lowest byte first (RV32I
+    /// manual, loads). A console gives 0. The frame exists, and the offset is a multiple of the width.
     pub fn load(&self, frame: u32, offset: u32, width: u32) -> u32
         requires there { frame < length self.now.memory.ram + self.now.consoles }
         requires width { IsWidth width }
@@ -163,10 +162,9 @@ impl Frames {
         }
     }
 
-    /// Stores the lowest 1, 2 or 4 bytes of a value to a frame from an offset on, the lowest byte
-    /// first (RV32I manual, stores). To a console, a store at offset 0 enters the low byte in the
-    /// log, and any other does nothing. The frame exists, the offset is a multiple of the width, and
-    /// the log has room.
+    /// Stores the lowest `width` bytes, 1, 2 or 4, of `value` to `frame` from `offset` on, the lowest byte
+    /// first (RV32I manual, stores). To a console, a store at offset 0 enters the low byte in the log, and any
+    /// other does nothing. The frame exists, the offset is a multiple of the width, and the log has room.
     #[inline(always)]
     pub fn store(&mut self, frame: u32, offset: u32, width: u32, value: u32)
         requires there { frame < length self.old.memory.ram + self.old.consoles }
@@ -191,7 +189,7 @@ impl Frames {
         }
     }
 
-    /// Enters the low byte of a value, stored to a console, in the log.
+    /// Enters the low byte of `value`, stored to the console `console`, in the log.
     #[inline(never)]
     fn enter(&mut self, console: u32, value: u32)
         requires { 0 < self.old.room }
@@ -207,7 +205,7 @@ impl Frames {
         self.room -= 1;
     }
 
-    /// Lays bytes into RAM one after another from an address on, across frames. They lie in RAM.
+    /// Lays `bytes` into RAM one after another from `address` on, across frames. They lie in RAM.
     pub fn put(&mut self, address: u32, bytes: &[u8])
         requires { address + length bytes.now ≤ FRAME_SIZE * length self.old.memory.ram }
         ensures { self.new ≡ record self.old { memory = laid self.old.memory address bytes.now } }
@@ -217,7 +215,7 @@ impl Frames {
         }
     }
 
-    /// Lays a byte at an address of RAM.
+    /// Lays `byte` at `address` of RAM.
     fn put_byte(&mut self, address: usize, byte: u8)
         requires { address < FRAME_SIZE * length self.old.memory.ram }
         ensures { self.new ≡ record self.old {

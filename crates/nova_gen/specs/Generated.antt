@@ -10,7 +10,7 @@ settings = codes "cpus 1\nram 1\nconsoles 0\nroot 0 0 1 10\nimage 0 asm\n"
 unfoldable pub count_line : ℕ → List ℕ
 count_line number = codes "li x8, " ++ (decimal number ++ 10 ∷ [])
 
--- x9 is the selector of the next one: in each pass one is made, and given the first page to read
+-- x9 is the selector of the next domain: in each pass a domain is made, and given the first page to read
 unfoldable pub passes : List ℕ
 passes = codes "addi x9, x0, 64\nloop:\naddi x17, x0, 2\naddi x10, x9, 0\naddi x12, x0, 5\necall\naddi x9, x9, 1\naddi x8, x8, -1\nbne x8, x0, loop\n"
 

@@ -11,7 +11,7 @@ fn write_settings(out: &mut String) -> Result<(), AllocError>
     out.push_str("cpus 1\nram 1\nconsoles 0\nroot 0 0 1 10\nimage 0 asm\n")
 }
 
-/// Writes the line that says how many domains are made.
+/// Writes the line that says that `number` domains are made.
 #[tactic(auto, unfolding(crate::specs::Generated::count_line))]
 fn write_count(out: &mut String, number: u32) -> Result<(), AllocError>
     ensures { OnOk result (string_bytes out.new ≡ string_bytes out.old ++ count_line number) }
@@ -37,8 +37,8 @@ fn write_revoke(out: &mut String) -> Result<(), AllocError>
     out.push_str("addi x17, x0, 7\naddi x10, x0, 1\necall\nebreak\nend\n")
 }
 
-/// The text of a scenario in which the root makes so many domains, gives each a page to read, and then takes the page back from all. The number is from
-/// 1 to 90,000.
+/// The text of a scenario in which the root makes `number` domains, gives each a page to read, and then takes the page back from all. The number is
+/// from 1 to 90,000.
 pub fn generate(alloc: Global, number: u32) -> Result<Vec<u8>, AllocError>
     requires some { 0 < number }
     requires most { number ≤ 90000 }

@@ -1,4 +1,4 @@
--- How many turns are due before a deadline, where an alarm rings, where a deadline goes and where one is set.
+-- How many turns are due before a deadline, where an alarm rings, where a deadline goes and where a deadline is set.
 use Rattle.std.proofs.Common.{◌≡◌, ℕ, zero, suc, ◌+◌, ◌-◌, ◌<◌, ◌≤◌, List, [], ◌∷◌, ◌++◌, length, refl, sym, ap, ◌∙◌, subst, arith}
 use Rattle.std.specs.Prelude.{◌==◌, Bool, true, false, nat_le, nat_lt, cond, filter, slice_get, slice_set, if◌then◌else◌, Option, Some, None}
 use Rattle.std.specs.List.{range_with_len}
@@ -20,7 +20,7 @@ one_if t = if t then 1 else 0
 less_one : (a b : ℕ) → nat_lt a b ≡ true → b - a ≡ suc (b - (a + 1))
 less_one a b less = let below : a < b = grind (arith, less) in omega (arith, below)
 
--- one that rings has one moment less to come
+-- an alarm that rings has one moment less to come
 ring_once : (at : ℕ) (a : AlarmState) → goes_on a ≡ true → rings_left at (rung_once a) + one_if (nat_le (moment a.alarm a.rings) at) ≡ rings_left at a
 ring_once at a more =
     subst (λ (m : ℕ). rings_left at (rung_once a) + one_if (nat_le (moment a.alarm a.rings) at) ≡ length (filter (λ j. nat_le (moment a.alarm j) at) (range_with_len a.rings m)))
@@ -74,7 +74,7 @@ count_front p (Some e) es = by_test (p e)
     by_test true = omega arith
     by_test false = omega arith
 
--- where one is set that isn't counted, what stood there no longer is
+-- where a deadline is set that isn't counted, what stood there no longer is
 pub set_counted : (p : Entry → Bool) (cpu n : ℕ) (ds : List (Option Deadline)) (i : ℕ) (x : Option Deadline) → counted_one p (deadline_entry cpu (n + i) x) ≡ 0 →
     counted p cpu n (slice_set ds i x) + counted_one p (deadline_entry cpu (n + i) (entry (slice_get ds i))) ≡ counted p cpu n ds
 set_counted p cpu n [] i x none = refl
@@ -95,7 +95,7 @@ set_counted p cpu n (y ∷ ds) (suc i) x none =
     ap (λ (m : ℕ). counted_one p (deadline_entry cpu m (entry (slice_get ds i)))) number in
     omega (arith, old, new, others, same)
 
--- one that goes
+-- a deadline that goes
 pub cleared_counted : (p : Entry → Bool) (cpu : ℕ) (ds : List (Option Deadline)) (w : ℕ) →
     counted p cpu 0 (slice_set ds w None) + counted_one p (deadline_entry cpu w (entry (slice_get ds w))) ≡ counted p cpu 0 ds
 cleared_counted p cpu ds w =
@@ -110,7 +110,7 @@ pub ends_fewer : (p : Entry → Bool) (cpu : ℕ) (ds : List (Option Deadline)) 
 ends_fewer p cpu ds None = omega arith
 ends_fewer p cpu ds (Some (w, status)) = cleared_fewer p cpu ds w
 
--- one that is set, of no processor but this, and later
+-- a deadline that is set, of no processor but `cpu`, and later
 pub later_uncounted : (cpu ec n : ℕ) (d x : Deadline) → (x.cpu ≡ cpu → d.at < x.at) → counted_one (λ e. comes_before e (entry_of ec d)) (deadline_entry cpu n (Some x)) ≡ 0
 later_uncounted cpu ec n d x later = by_test (x.cpu == cpu) refl
   where

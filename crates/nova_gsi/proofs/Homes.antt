@@ -1,4 +1,4 @@
--- Who acts in a turn is of its processor.
+-- The context that acts in a turn is of its processor.
 use Rattle.std.proofs.Common.{◌≡◌, ℕ, ap, sym, ◌∙◌}
 use Rattle.std.specs.Prelude.{is_some, List, Some}
 use Rattle.std.proofs.lemmas.Option.{same_Some}

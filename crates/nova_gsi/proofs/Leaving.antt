@@ -1,4 +1,4 @@
--- Who waits at a semaphore leaves in a turn only where its down ends with SUCCESS, as is counted, or where its deadline comes.
+-- A context that waits at a semaphore leaves in a turn only where its down ends with SUCCESS, as is counted, or where its deadline comes.
 use Rattle.std.proofs.Common.{◌≡◌, ℕ, ◌-◌, List, [], ◌∷◌, ◌++◌, refl, sym, ap, ◌∙◌, subst, inl, inr, arith}
 use Rattle.std.specs.Prelude.{◌≢◌, ◌⊎◌, Bool, true, false, not, ◌==◌, filter, if◌then◌else◌, slice_get, option_map, Option, Some, None, Result, Ok}
 use Rattle.std.proofs.lemmas.Bool.{eqb-true}

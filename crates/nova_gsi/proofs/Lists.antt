@@ -60,7 +60,7 @@ taken_fewer p (e ∷ es) (suc a) (suc b) less = by_test (p e) (taken_fewer p es 
     by_test true h = omega (arith, h)
     by_test false h = h
 
--- the first so many of a range pass, and no others
+-- the first numbers of a range pass, and no others
 pub none_pass : (p : ℕ → Bool) (m len : ℕ) → ((j : ℕ) → m ≤ j → j < m + len → p j ≡ false) → length (filter p (range_with_len m len)) ≡ 0
 none_pass p m zero fails = refl
 none_pass p m (suc len) fails = by_test (p m) (fails m (omega arith) (omega arith)) (none_pass p (m + 1) len (λ j from below. fails j (omega (arith, from)) (omega (arith, below))))

@@ -23,7 +23,7 @@ use Rattle.law_turns.proofs.Dues.{due_is}
 use Rattle.law_turns.proofs.Setting.{get_other, index_itself, index_other, set_length}
 use Rattle.nova_gsi.specs.Firings.{clock_at, count_of, fired_before, is_firing, is_irq, is_on, moment, was_due}
 
--- alarm `n` is that of a source, has rung so often, and its processor's clock is so far; each moment that it has rung at has come
+-- alarm `n` is that of a source, has rung `rings` times, and its processor's clock is at `now`; each moment that it has rung at has come
 pub record IsAt (s : Alarm) (n : ℕ) (k : KernelState) (rings now : ℕ) : Type 0 where
   pub alarm : AlarmState
   pub there : slice_get k.times.alarms n ≡ Some alarm
@@ -260,7 +260,7 @@ firing_due s n e rings now p fires =
         let both : true ≡ false = sym fires ∙ ap (λ (g : Event). is_firing n g) event ∙ quiet in cc)
     by_turning t f (Passes q comes is event) fires = by_passing q comes (ap (λ (g : Event). is_firing n g) (sym event) ∙ fires)
 
--- so far nothing is due where nothing is
+-- nothing is due this turn where nothing is due now
 pub calm_early : (t : Times) (cpu : ℕ) → due_on t cpu ≡ None → IsEarly t cpu 1
 calm_early t cpu calm = by_next (next_entry t cpu) calm
   where

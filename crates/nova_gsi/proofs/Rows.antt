@@ -74,7 +74,7 @@ waits_once : (total (λ e. e.downs) (boot (row (once ∷ []))) 3 (replicate 9 0)
 unfolding one instr_of call_of choice deed input_of next_entry next_to_act charged turn
 waits_once = (refl, refl, refl, refl)
 
--- `source 0 0 1 2` at a semaphore with the greatest counter, at which nobody waits: both alarms have status 3, and the counter stays
+-- `source 0 0 1 2` at a semaphore with the greatest counter, at which none waits: both alarms have status 3, and the counter stays
 abbrev full : KernelState
 full = record (boot (row (record { cpu = 0; first = 0; period = 1; count = 2 } ∷ []))) {
   semaphores = None ∷ None ∷ None ∷ Some (record { count = 4294967295; waiting = [] }) ∷ [];

@@ -1,4 +1,4 @@
--- Who has a deadline set it in its own turn; whose deadline comes had it; and who leaves a queue has none.
+-- A context that has a deadline set it in its own turn; a context whose deadline comes had it; and a context that leaves a queue has none.
 use Rattle.std.proofs.Common.{◌≡◌, ℕ, ◌+◌, ◌<◌, ◌≤◌, List, refl, sym, ap, ◌∙◌, subst, inl, inr}
 use Rattle.std.specs.Prelude.{◌⊎◌, true, false, slice_get, slice_set, Option, Some, None}
 use Rattle.nova_model.specs.Boot.{Scenario, boot}
@@ -30,7 +30,7 @@ use Rattle.nova_gsi.specs.Deadlines.{HadDeadline, SetsOwn}
 use Rattle.nova_gsi.proofs.Homes.{actor_home}
 use Rattle.nova_gsi.proofs.Standing.{IsSet, was_or_set}
 
--- who acts isn't blocked
+-- a context that acts isn't blocked
 not_blocked : (k : KernelState) (cpu w sm : ℕ) (c : Candidate) → next_to_act k cpu ≡ Some c → w ≡ c.actor → state_in k.contexts w ≡ Some (Blocked sm) → ⊥
 not_blocked k cpu w sm c acts same waits =
     let free = (actor_of k.contexts c.actor (chosen_acts k cpu c acts)).unblocked in

@@ -35,7 +35,7 @@ use Rattle.nova_gsi.proofs.Places.{calm_early}
 
 -- IT STOOD, OR IT WAS SET
 
--- a deed sets it, of the one that does it
+-- a deed sets it, of the context that does it
 pub record Sets (k : KernelState) (ec n : ℕ) (d : Deed) (x : Deadline) : Type 0 where
   pub itself : n ≡ ec
   pub sm : ℕ
@@ -78,7 +78,7 @@ was_or_set k cpu ec d there = elim (comes k cpu) [
   | Takes t e is state answer ↦ turned_set k cpu ec d t e is (ap (λ (l : KernelState). deadline_of l.times ec) (sym state) ∙ there)
 ]
 
--- one whose moment has come stood
+-- a deadline whose moment has come stood
 pub stood : (k : KernelState) (cpu ec : ℕ) (d : Deadline) → d.at ≤ clock k.times d.cpu → deadline_of (after k cpu).times ec ≡ Some d → deadline_of k.times ec ≡ Some d
 stood k cpu ec d came there = elim (was_or_set k cpu ec d there) [
   | inl old ↦ old

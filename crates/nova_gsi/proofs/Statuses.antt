@@ -38,13 +38,13 @@ use Rattle.nova_gsi.proofs.Boots.{boot_alarms, get_map, images_alarms}
 use Rattle.nova_gsi.proofs.Counters.{counts_on, turn_counts}
 use Rattle.nova_gsi.proofs.Places.{of_turn}
 
--- a semaphore is there, with a counter of at most so many
+-- a semaphore is there, with a counter of at most `most`
 pub record IsWithin (all : Semaphores) (sm most : ℕ) : Type 0 where
   pub now : Semaphore
   pub there : semaphore_at all sm ≡ Some now
   pub within : now.count ≤ most
 
--- alarms are these, and the counters of their semaphores at most so many
+-- alarms are these, and the counters of their semaphores at most `most`
 pub record AreWithin (alarms : List Alarm) (most : ℕ) (k : KernelState) : Type 0 where
   pub same : map (λ (a : AlarmState). a.alarm) k.times.alarms ≡ alarms
   pub counters : (n : ℕ) (s : Alarm) → slice_get alarms n ≡ Some s → IsWithin k.semaphores s.sm most
@@ -146,7 +146,7 @@ taken_is alarms e bound h within irq = of_turn (λ f. is_irq f.kind ≡ true →
 
 -- AT BOOT
 
--- the semaphore of each alarm is there, and nobody waits
+-- the semaphore of each alarm is there, and none waits
 pub record HasSemaphores (k : KernelState) : Type 0 where
   pub fits : TablesFit k
   pub idle : (n : ℕ) (a : AlarmState) → slice_get k.times.alarms n ≡ Some a → semaphore_at k.semaphores a.alarm.sm ≡ Some (idle_semaphore 0)

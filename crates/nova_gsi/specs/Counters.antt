@@ -29,7 +29,7 @@ abbrev pub woken_ends : Option EcId → ℕ
 woken_ends None = 0
 woken_ends (Some w) = 1
 
--- in the turn of who acts, by its deed
+-- in the turn of the context that acts, by its deed
 abbrev pub ends_by_deed : SmId → Deed → Ends
 ends_by_deed sm (Ups at whom) = if at == sm then record { ups = 1; downs = woken_ends whom; irqs = 0 } else no_ends
 ends_by_deed sm (Downs at) = if at == sm then record { ups = 0; downs = 1; irqs = 0 } else no_ends

@@ -43,7 +43,7 @@ pub record IsNoLater (t : Times) (ec : EcId) (d : Deadline) : Type 0 where
   pub due : due_on t d.cpu ≡ Some entry.what
   pub order : (entry ≡ entry_of ec d) ⊎ (comes_before entry (entry_of ec d) ≡ true)
 
--- who had no deadline sets it in its own turn, on its processor: it begins to wait, until later than the turn ends
+-- a context that had no deadline sets it in its own turn, on its processor: it begins to wait, until later than the turn ends
 pub record SetsOwn (k : KernelState) (cpu : CpuId) (ec : EcId) (d : Deadline) : Type 0 where
   pub chosen : Candidate
   pub acts : next_to_act k cpu ≡ Some chosen
@@ -62,7 +62,7 @@ pub record HasStood (k : KernelState) (turns : List CpuId) (ec : EcId) (d : Dead
   pub sets : SetsOwn (run k before) cpu ec d
   pub stands : (n : ℕ) → deadline_of (run (after (run k before) cpu) (take n since)).times ec ≡ Some d
 
--- the one that a deadline's turn names had it before, its moment had come, and it waited to it; after the turn it has none
+-- the context that a deadline's turn names had it before, its moment had come, and it waited to it; after the turn it has none
 pub record HadDeadline (k : KernelState) (cpu : CpuId) (e : Event) : Type 0 where
   pub deadline : Deadline
   pub had : deadline_of k.times e.ec ≡ Some deadline

@@ -73,7 +73,7 @@ greatest (x ∷ xs) = max x (greatest xs)
 abbrev pub worst : Alarm → List Event → ℕ → ℕ
 worst s trace n = greatest (delays s trace n)
 
--- the worst so far, with one that comes at a clock
+-- the worst so far, with a moment that comes at a clock
 abbrev pub worse : Alarm → ℕ → ℕ → ℕ → ℕ
 worse s clock fired worst = if nat_lt fired s.count then max worst (clock - moment s fired) else worst
 

@@ -14,10 +14,11 @@ ghost use Rattle.nova_model.specs.declared.times.Deadline.{Deadline};
 ghost use Rattle.nova_model.specs.declared.times.Due.TheVariants as due;
 ghost use Rattle.nova_gsi.specs.Deadlines.{HadDeadline, HasStood, IsNoLater, SetsOwn, turns_before};
 
-/// Whatever list of turns is taken from whatever boot state, who has a deadline after a turn had the same
-/// before it, or had none and set it in its own turn, where it began to wait, to a moment after that turn. So
-/// it has stood since. The one whose deadline comes had it and was blocked. Who leaves a queue, woken or too
-/// late, has none any more: no deadline comes of one that was woken, unless it waits to another.
+/// Whatever list of turns is taken from whatever boot state, an execution context that has a deadline after a
+/// turn had the same before it, or set it in its own turn. In that turn it had none before, and began to wait,
+/// to a moment after that turn. So it has stood since. An execution context whose deadline comes had it and was
+/// blocked. An execution context that leaves a queue, woken or too late, has none any more: no deadline comes
+/// of one that was woken, unless it waits to another.
 pub fn deadlines_are_of_who_waits()
     ensures set { (scenario : Scenario) (turns : List ℕ) (cpu ec : ℕ) (d : Deadline)
         → deadline_of (after (run (boot scenario) turns) cpu).times ec ≡ Some d
@@ -36,10 +37,10 @@ pub fn deadlines_are_of_who_waits()
 {}
 
 /// Where a deadline's moment has come, its processor's turn is that deadline, or an entry that comes before it,
-/// and nobody acts there. Along whatever list of turns from there on, while it stands, its processor's clock
-/// and the number of turns that are due before it sum to no more than they did; and where the clock has come
-/// to that sum, its turn is next. So it comes no later than in the turn that begins at a clock of its moment
-/// and the number of turns that were due before it then; one that is set meanwhile isn't among them.
+/// and none acts there. Along whatever list of turns from there on, while it stands, its processor's clock and
+/// the number of turns that are due before it sum to no more than they did; and where the clock has come to
+/// that sum, its turn is next. So it comes no later than in the turn that begins at a clock of its moment and
+/// the number of turns that were due before it then; a deadline that is set meanwhile isn't among them.
 pub fn deadlines_come_in_time()
     ensures first { (k : KernelState) (ec : ℕ) (d : Deadline)
         → deadline_of k.times ec ≡ Some d

@@ -21,8 +21,8 @@ pub fn sources_are_alarms()
 {}
 
 /// Whatever list of turns is taken from whatever boot state, the firings of a source are of its moments, in
-/// order: none comes before its moment, none is lost and none is doubled. Where nothing is due on its
-/// processor at the end, it fired as often as moments have come; and in a quiet state all have.
+/// order. None comes before its moment, none is lost and none is doubled. Where nothing is due on its processor
+/// at the end, it fired as often as moments have come; and in a quiet state all have.
 pub fn firings_are_of_their_moments()
     ensures moments { (scenario : Scenario) (turns : List ℕ) (n : ℕ) (s : Alarm)
         → slice_get (alarms_of scenario) n ≡ Some s
@@ -40,10 +40,10 @@ pub fn firings_are_of_their_moments()
         → fired (trace (boot scenario) turns) n ≡ s.count }
 {}
 
-/// From any state on in which a semaphore is there, its counter, with the downs that ended with SUCCESS, is what it was, with the ups that
-/// did and the alarms with status 0: from boot on that of a source, which is 0 then, and from the turn on that made it that of any other,
-/// which then has the counter that was asked for. A down that waits ends in the turn in which it is woken; one whose deadline comes doesn't end with SUCCESS: who leaves a queue in a turn is counted in it,
-/// or its deadline was due.
+/// From any state on in which a semaphore is there, its counter, with the downs that ended with SUCCESS, is what it was, with the ups that did and
+/// the alarms with status 0. So it is from boot on for that of a source, which is 0 then, and from the turn on that made it for that of any other,
+/// which then has the counter that was asked for. A down that waits ends in the turn in which it is woken; a down whose deadline comes doesn't end
+/// with SUCCESS: an execution context that leaves a queue in a turn is counted in it, or its deadline was due.
 pub fn counters_tell_what_ended()
     ensures counts { (k : KernelState) (turns : List ℕ) (sm : ℕ) (s : Semaphore)
         → semaphore_at k.semaphores sm ≡ Some s
@@ -63,8 +63,8 @@ pub fn counters_tell_what_ended()
         → IsBalanced (after (run (boot scenario) before) cpu) later (run (boot scenario) (before ++ cpu ∷ later)) sm count }
 {}
 
-/// In a list of fewer than 2^32 turns from a boot state each alarm has status 0, whoever else ups its
-/// semaphore: a counter rises by at most one in a turn.
+/// In a list of fewer than 2^32 turns from a boot state each alarm has status 0, whatever else ups its
+/// semaphore. A counter rises by at most one in a turn.
 pub fn alarms_have_room()
     ensures { (scenario : Scenario) (turns : List ℕ) (place : ℕ) (e : Event)
         → length turns < 2 ^ 32

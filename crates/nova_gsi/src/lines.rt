@@ -48,7 +48,7 @@ struct Seen {
     worst: u64,
 }
 
-/// After an event more.
+/// What is `before`, after `event`.
 fn see(source: &Source, number: usize, event: Event, before: Seen) -> Seen
     requires numbers { IsSource source.now }
     requires clock { before.clock + 1 < 2 ^ 64 }
@@ -80,7 +80,7 @@ fn see(source: &Source, number: usize, event: Event, before: Seen) -> Seen
     }
 }
 
-/// After an event that comes so many times.
+/// What is `before`, after `event` has come `count` times.
 fn see_times(source: &Source, number: usize, event: Event, count: u64, before: Seen) -> Seen
     requires numbers { IsSource source.now }
     requires clock { before.clock + count < 2 ^ 64 }
@@ -96,7 +96,7 @@ fn see_times(source: &Source, number: usize, event: Event, count: u64, before: S
     now
 }
 
-/// After an entry more: one that is no firing is passed in one go.
+/// What is `before`, after `entry`; an entry that is no firing is passed in one go.
 fn see_entry(source: &Source, number: usize, entry: &Repeated, before: Seen) -> Seen
     requires numbers { IsSource source.now }
     requires clock { before.clock + entry.now.count < 2 ^ 64 }
@@ -115,7 +115,7 @@ fn see_entry(source: &Source, number: usize, entry: &Repeated, before: Seen) -> 
     now
 }
 
-/// What came of one source, by its number.
+/// What came of `source`, by its number `number`.
 fn line(source: &Source, number: usize, trace: &Trace) -> SourceLine
     requires numbers { IsSource source.now }
     ensures { result ≡ line source.now trace.now.items number }
@@ -135,7 +135,7 @@ fn line(source: &Source, number: usize, trace: &Trace) -> SourceLine
     }
 }
 
-/// How often each source fired in a trace, and how late. The only error is that memory ran out.
+/// How often each of `sources` fired in `trace`, and how late. The only error is that memory ran out.
 pub fn table(
     alloc: Global,
     sources: &[Source],

@@ -20,7 +20,7 @@ stored_in_cell frame offset width value c =
 abbrev pub stored_in : List Cell → ℕ → ℕ → ℕ → ℕ → List Cell
 stored_in cells frame offset width value = map (stored_in_cell frame offset width value) cells
 
--- contents as the cells of frames one after another, from a frame on: so many pieces of a size
+-- contents as the cells of frames one after another, from a frame on: pieces of `page_size` bytes
 unfoldable pub page_size : ℕ
 page_size = 4096
 

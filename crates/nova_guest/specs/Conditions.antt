@@ -1,4 +1,4 @@
--- What holds of a guest, and of an input to it, wherever one is applied.
+-- What holds of a guest, and of an input to it, wherever an input is applied.
 use Rattle.std.specs.Prelude.{◌≡◌, ◌<◌, ◌≤◌, ◌⊎◌, ℕ, ◌+◌, ◌*◌, ◌%◌, ◌^◌, false, List, [], ◌∷◌, length, IsSome}
 use Rattle.std.specs.List.{All, AllPairs, list_any}
 use Rattle.nova_range.specs.Ranges.{IsRange}

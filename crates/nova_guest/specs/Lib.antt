@@ -6,4 +6,3 @@ pub mod Cells
 pub mod Alone
 pub mod Admitted
 pub mod Conditions
-pub mod Sights

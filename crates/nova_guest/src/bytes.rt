@@ -22,14 +22,14 @@ impl Model for Bytes {
 }
 
 impl Bytes {
-    /// The bytes of a vector.
+    /// The bytes of the vector `items`.
     pub fn new(items: Vec<u8>) -> Bytes
         ensures { result ≡ items.items }
     {
         Bytes { items }
     }
 
-    /// The vector again.
+    /// The vector of these bytes.
     pub fn into_vec(self) -> Vec<u8>
         ensures { result.items ≡ self }
     {
@@ -43,7 +43,7 @@ impl Bytes {
         self.items.as_slice()
     }
 
-    /// The same bytes in memory of their own.
+    /// Copies the bytes into memory of their own.
     pub fn copy(&self) -> Result<Bytes, AllocError>
         ensures { IfOk result (λ copy. copy ≡ self.now) }
     {
@@ -51,7 +51,7 @@ impl Bytes {
         Ok(Bytes { items })
     }
 
-    /// The number in the 1, 2 or 4 bytes from an offset on, the lowest byte first. They are there.
+    /// The number in the `width` bytes, 1, 2 or 4, from `offset` on, the lowest byte first. They are there.
     pub fn load(&self, offset: u32, width: u32) -> u32
         requires width { IsWidth width }
         requires there { offset + width ≤ length self.now }
@@ -61,8 +61,7 @@ impl Bytes {
         read_word(&self.items[offset as usize..], width)
     }
 
-    /// Stores the lowest 1, 2 or 4 bytes of a value from an offset on, the lowest byte first, in the
-    /// place of bytes that are there.
+    /// Stores the lowest `width` bytes, 1, 2 or 4, of `value` from `offset` on, the lowest byte first, in the place of bytes that are there.
     pub fn store(&mut self, offset: u32, width: u32, value: u32)
         requires width { IsWidth width }
         requires there { offset + width ≤ length self.old }

@@ -47,7 +47,7 @@ impl Keyed for Cell {
 }
 
 impl Cell {
-    /// The same frame with the same bytes in memory of their own.
+    /// Copies the cell: the same frame, with its bytes in memory of their own.
     pub fn copy(&self) -> Result<Cell, AllocError>
         ensures { IfOk result (λ copy. copy ≡ self.now) }
     {
@@ -57,7 +57,7 @@ impl Cell {
         })
     }
 
-    /// A store to a frame, which changes the bytes where it is this one.
+    /// Stores `value`, of `width` bytes, at `offset` of `frame`; the bytes change only where this cell is of that frame.
     fn store(&mut self, frame: u32, offset: u32, width: u32, value: u32)
         requires whole { length self.old.contents ≡ 4096 }
         requires place { IsStore offset width }
@@ -85,15 +85,15 @@ fn piece(alloc: Global, frame: u32, contents: &[u8], i: usize) -> Result<Cell, A
 }
 
 impl Cells {
-    /// The cells of a vector.
+    /// The cells of the vector `items`.
     pub fn new(items: Vec<Cell>) -> Cells
         ensures { result ≡ items.items }
     {
         Cells { items }
     }
 
-    /// None.
-    pub(crate) fn none(&self) -> Cells
+    /// No cells.
+    pub fn none(&self) -> Cells
         ensures { result ≡ [] }
     {
         Cells {
@@ -101,7 +101,7 @@ impl Cells {
         }
     }
 
-    /// The vector again.
+    /// The vector of these cells.
     pub fn into_vec(self) -> Vec<Cell>
         ensures { result.items ≡ self }
     {
@@ -115,7 +115,7 @@ impl Cells {
         self.items.as_slice()
     }
 
-    /// The same cells in memory of their own.
+    /// Copies the cells into memory of their own.
     pub fn copy(&self) -> Result<Cells, AllocError>
         ensures { IfOk result (λ copy. copy ≡ self.now) }
     {
@@ -126,8 +126,8 @@ impl Cells {
         Ok(Cells { items })
     }
 
-    /// Whether a frame has a cell.
-    pub(crate) fn has(&self, frame: u32) -> bool
+    /// Whether `frame` has a cell.
+    pub fn has(&self, frame: u32) -> bool
         ensures { result ≡ is_some (cell_at self.now frame) }
     {
         for cell in &self.items {
@@ -138,9 +138,9 @@ impl Cells {
         false
     }
 
-    /// The number in the 1, 2 or 4 bytes of a frame from an offset on, the lowest byte first. A frame
+    /// The number in the `width` bytes, 1, 2 or 4, of `frame` from `offset` on, the lowest byte first. A frame
     /// without a cell gives 0. The offset is a multiple of the width below 4,096.
-    pub(crate) fn load(&self, frame: u32, offset: u32, width: u32) -> u32
+    pub fn load(&self, frame: u32, offset: u32, width: u32) -> u32
         requires whole { AreWhole self.now }
         requires place { IsStore offset width }
         ensures number { result ≡ read_in (cell_at self.now frame) offset width }
@@ -154,9 +154,9 @@ impl Cells {
         0
     }
 
-    /// Stores the lowest 1, 2 or 4 bytes of a value to a frame from an offset on, the lowest byte first. A
-    /// frame without a cell takes none. The offset is a multiple of the width below 4,096.
-    pub(crate) fn store(&mut self, frame: u32, offset: u32, width: u32, value: u32)
+    /// Stores the lowest `width` bytes, 1, 2 or 4, of `value` to `frame` from `offset` on, the lowest byte
+    /// first. A frame without a cell takes none. The offset is a multiple of the width below 4,096.
+    pub fn store(&mut self, frame: u32, offset: u32, width: u32, value: u32)
         requires whole { AreWhole self.old }
         requires place { IsStore offset width }
         ensures stored { self.new ≡ stored_in self.old frame offset width value }
@@ -181,16 +181,16 @@ impl Cells {
         Ok(cells)
     }
 
-    /// Drops of cells that are given those of frames that have one.
+    /// Drops of the cells `given` those of frames that have one.
     fn skip(&self, given: &mut Vec<Cell>)
         ensures { given.new.items ≡ missing self.now given.old.items }
     {
         given.retain(|cell| !self.has(cell.frame));
     }
 
-    /// A cell comes for each frame from `frame` on that has none, with its bytes from the contents.
+    /// Adds a cell for each frame from `frame` on that has none, with its bytes from `contents`.
     #[tactic(auto, unfolding(crate::specs::Cells::page_size))]
-    pub(crate) fn add(&mut self, frame: u32, contents: &[u8]) -> Result<(), AllocError>
+    pub fn add(&mut self, frame: u32, contents: &[u8]) -> Result<(), AllocError>
         requires { frame + length contents.now / PAGE_SIZE ≤ 2 ^ 32 }
         ensures added { OnOk result (self.new ≡ placed_all frame_of (missing self.old (cells_given frame contents.now)) self.old) }
         ensures refused { OnErr result (self.new ≡ self.old) }
@@ -200,8 +200,8 @@ impl Cells {
         place_all(&mut self.items, cells)
     }
 
-    /// Drops the cells to which no map leads.
-    pub(crate) fn keep(&mut self, maps: &Maps)
+    /// Drops the cells to which none of `maps` leads.
+    pub fn keep(&mut self, maps: &Maps)
         ensures { self.new ≡ filter (λ c. is_covered maps.now c.frame) self.old }
     {
         self.items.retain(|cell| maps.lead_to(cell.frame));

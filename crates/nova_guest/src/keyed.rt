@@ -12,7 +12,7 @@ pub(crate) trait Keyed {
         ensures { result ≡ key_of self.now };
 }
 
-/// Where an item goes: before the first of a greater number, or nowhere where its own comes before that.
+/// Where `item` goes: before the first of a greater number, or nowhere where its own comes before that.
 fn place_of<T: Keyed>(items: &[T], item: &T) -> Option<usize>
     ensures placed { inserted item.now items.now result ≡ placed T.key_of item.now items.now }
     ensures within { IfSome result (λ i. i ≤ length items.now) }
@@ -29,7 +29,7 @@ fn place_of<T: Keyed>(items: &[T], item: &T) -> Option<usize>
     Some(items.len())
 }
 
-/// Puts an item at its place. There is room for it.
+/// Puts `item` at its place. There is room for it.
 pub(crate) fn place<T: Keyed + Drop>(items: &mut Vec<T>, item: T)
     requires { vec_len items.old < vec_capacity items.old }
     ensures placed { items.new.items ≡ placed T.key_of item items.old.items }
@@ -42,7 +42,7 @@ pub(crate) fn place<T: Keyed + Drop>(items: &mut Vec<T>, item: T)
     }
 }
 
-/// Puts items at their places.
+/// Puts the items `new` at their places.
 #[tactic(auto, using(crate::proofs::Placing::placed_last))]
 pub(crate) fn place_all<T: Keyed + Drop>(
     items: &mut Vec<T>,

@@ -1,5 +1,5 @@
-//! The guest alone: a virtual CPU as a machine that knows its inputs only, with no kernel, no other
-//! execution context and no scheduler.
+//! A virtual CPU as a machine that knows its inputs only, with no kernel, no other execution context and no scheduler, and the definition of
+//! what it does.
 #![tactic(auto)]
 
 pub mod bytes;
@@ -7,12 +7,8 @@ pub mod cell;
 pub mod guest;
 pub mod input;
 mod keyed;
-pub mod laws;
 pub mod map;
 pub mod page;
-mod registers;
-mod runs;
-mod sight;
 pub mod words;
 
 pub use bytes::Bytes;
@@ -21,4 +17,3 @@ pub use guest::{Guest, GuestState};
 pub use input::{Input, Out};
 pub use map::{Map, Maps};
 pub use page::Page;
-pub use runs::alone;

@@ -45,7 +45,7 @@ impl Keyed for Map {
     }
 }
 
-/// Whether a number is below `2^order`.
+/// Whether `number` is below `2^order`.
 #[tactic(auto, using(crate::proofs::Searches::below_all))]
 fn is_below(number: u32, order: u8) -> bool
     ensures { result ≡ nat_lt number (2 ^ order) }
@@ -53,7 +53,7 @@ fn is_below(number: u32, order: u8) -> bool
     order >= 32 || number < 1 << order
 }
 
-/// Whether a number is one of the `2^order` from a first one on.
+/// Whether `number` is one of the `2^order` from a first one on.
 fn is_among(number: u32, first: u32, order: u8) -> bool
     ensures { result ≡ nat_le first number && nat_lt number (first + 2 ^ order) }
 {
@@ -61,14 +61,14 @@ fn is_among(number: u32, first: u32, order: u8) -> bool
 }
 
 impl Map {
-    /// Whether it covers a page.
+    /// Whether it covers `page`.
     pub(crate) fn covers(&self, page: u32) -> bool
         ensures { result ≡ covers page self.now }
     {
         is_among(page, self.base, self.order)
     }
 
-    /// Whether it leads to a frame.
+    /// Whether it leads to `frame`.
     pub(crate) fn leads_to(&self, frame: u32) -> bool
         ensures { result ≡ leads_to frame self.now }
     {
@@ -86,7 +86,7 @@ impl Map {
         }
     }
 
-    /// What a page that it covers leads to.
+    /// What `page`, which the map covers, leads to.
     fn page(&self, page: u32) -> Page
         requires there { self.now.base ≤ page }
         requires fits { self.now.frame + (page - self.now.base) < 2 ^ 32 }
@@ -100,15 +100,15 @@ impl Map {
 }
 
 impl Maps {
-    /// The maps of a vector.
+    /// The maps of the vector `items`.
     pub fn new(items: Vec<Map>) -> Maps
         ensures { result ≡ items.items }
     {
         Maps { items }
     }
 
-    /// None.
-    pub(crate) fn none(&self) -> Maps
+    /// No maps.
+    pub fn none(&self) -> Maps
         ensures { result ≡ [] }
     {
         Maps {
@@ -116,7 +116,7 @@ impl Maps {
         }
     }
 
-    /// The vector again.
+    /// The vector of these maps.
     pub fn into_vec(self) -> Vec<Map>
         ensures { result.items ≡ self }
     {
@@ -130,7 +130,7 @@ impl Maps {
         self.items.as_slice()
     }
 
-    /// The same maps in memory of their own.
+    /// Copies the maps into memory of their own.
     pub fn copy(&self) -> Result<Maps, AllocError>
         ensures { IfOk result (λ copy. copy ≡ self.now) }
     {
@@ -138,8 +138,8 @@ impl Maps {
         Ok(Maps { items })
     }
 
-    /// What a page leads to, or nothing where no map covers it.
-    pub(crate) fn page_at(&self, page: u32) -> Option<Page>
+    /// What `page` leads to, or nothing where no map covers it.
+    pub fn page_at(&self, page: u32) -> Option<Page>
         requires { AreMaps self.now }
         ensures { result ≡ page_in self.now page }
     {
@@ -151,7 +151,7 @@ impl Maps {
         None
     }
 
-    /// Whether some map leads to a frame.
+    /// Whether some map leads to `frame`.
     pub(crate) fn lead_to(&self, frame: u32) -> bool
         ensures { result ≡ is_covered self.now frame }
     {
@@ -159,14 +159,14 @@ impl Maps {
     }
 
     /// Whether some map shares a page with the `2^order` pages from `base` on.
-    pub(crate) fn overlap(&self, base: u32, order: u8) -> bool
+    pub fn overlap(&self, base: u32, order: u8) -> bool
         ensures { result ≡ list_any (overlaps base order) self.now }
     {
         self.items.iter().any(|map| map.overlaps(base, order))
     }
 
-    /// Whether there is a map of this base and order.
-    pub(crate) fn has(&self, base: u32, order: u8) -> bool
+    /// Whether there is a map of `base` and `order`.
+    pub fn has(&self, base: u32, order: u8) -> bool
         ensures { result ≡ list_any (is_map base order) self.now }
     {
         self.items
@@ -174,8 +174,8 @@ impl Maps {
             .any(|map| map.base == base && map.order == order)
     }
 
-    /// The maps with one more at its place, in memory of their own.
-    pub(crate) fn with(&self, map: Map) -> Result<Maps, AllocError>
+    /// These maps with `map` at its place, in memory of their own.
+    pub fn with(&self, map: Map) -> Result<Maps, AllocError>
         ensures { IfOk result (λ maps. maps ≡ placed base_of map self.now) }
     {
         let mut items = Vec::from_slice(*self.items.allocator(), self.items.as_slice())?;
@@ -184,8 +184,8 @@ impl Maps {
         Ok(Maps { items })
     }
 
-    /// Drops the maps of this base and order.
-    pub(crate) fn remove(&mut self, base: u32, order: u8)
+    /// Drops the maps of `base` and `order`.
+    pub fn remove(&mut self, base: u32, order: u8)
         ensures { self.new ≡ filter (λ m. not (is_map base order m)) self.old }
     {
         self.items

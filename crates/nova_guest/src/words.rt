@@ -4,7 +4,7 @@ ghost use Rattle.nova_guest.specs.Conditions.{IsWidth};
 
 use byteorder::{ByteOrder, LittleEndian};
 
-/// The number in the first 1, 2 or 4 bytes of a slice, the lowest byte first.
+/// The number in the first `width` bytes, 1, 2 or 4, of `bytes`, the lowest byte first.
 pub fn read_word(bytes: &[u8], width: u32) -> u32
     requires width { IsWidth width }
     requires there { width ≤ length bytes.now }
@@ -18,7 +18,7 @@ pub fn read_word(bytes: &[u8], width: u32) -> u32
     }
 }
 
-/// Writes the lowest 1, 2 or 4 bytes of a value to the front of a slice, the lowest byte first.
+/// Writes the lowest `width` bytes, 1, 2 or 4, of `value` to the front of `bytes`, the lowest byte first.
 #[inline(always)]
 pub fn write_word(bytes: &mut [u8], width: u32, value: u32)
     requires width { IsWidth width }

@@ -1,7 +1,7 @@
 -- Counts of faults, and of calls.
 use Rattle.std.specs.Prelude.{◌≡◌, ℕ, ◌+◌, ◌-◌, ◌^◌, ◌<◌, ◌≤◌, ◌⊎◌, min, List}
 
--- the count rose; one that stood at its last value counts as risen
+-- the count rose; a count that stood at its last value counts as risen
 abbrev pub Rose : ℕ → ℕ → Type 0
 Rose before after = (before < after) ⊎ (before ≡ 2 ^ 64 - 1)
 

@@ -9,8 +9,7 @@ use Rattle.nova_io.specs.Memory.{CallCounts, DepotState, SinkState, after_call, 
 abbrev pub IsToFail : CallCounts → Type 0
 IsToFail calls = Contains calls.failing (raised calls.made)
 
--- a fetch that gave a piece: the bytes from the place on, as many as there are of those that were asked for, and at most
--- so many as one call gives
+-- a fetch that gave a piece: the bytes from the place on, as many as there are of those that were asked for, and at most as many as one call gives
 pub record MemGave (before : DepotState) (name : List ℕ) (at asked : ℕ) (piece : List ℕ) (after : DepotState) : Type 0 where
   pub goes_well : IsToFail before.fetches → ⊥
   pub there : IsSome (get before.files name)

@@ -43,7 +43,7 @@ Rooms = FinMap (slice_cmp nat_cmp) ℕ
 abbrev pub room_of : Rooms → List ℕ → ℕ
 room_of rooms name = unwrap_or (get rooms name) 0
 
--- the rooms after so many bytes went into the room of a name
+-- the rooms after as many bytes as the number says went into the room of `name`
 abbrev pub lowered : Rooms → List ℕ → ℕ → Rooms
 lowered rooms name zero = rooms
 lowered rooms name (suc n) = insert rooms name (room_of rooms name - suc n)

@@ -7,7 +7,7 @@ use Rattle.nova_io.specs.Fetched.{Gave, FetchFailed, Came, CameWhole}
 use Rattle.nova_io.specs.Files.{Files, bytes_of, with_appended}
 use Rattle.nova_io.specs.Taken.{Took, TakeFailed, TookFor, TakeFailedFor, WentWhole, WentInPart}
 
--- of a depot: its files; what a fetch gave, that one failed, and how many fetches of each name failed; and the same of appends
+-- of a depot: its files; what a fetch gave, that a fetch failed, and how many fetches of each name failed; and the same of appends
 pub record Depots (D : Type 0) : Type 1 where
   pub files : D → Option Files
   pub gave : Gave D
@@ -28,7 +28,7 @@ depots files gave fetch_failed fetch_faults took append_failed append_faults = r
   append_faults = append_faults;
 }
 
--- of a sink: the bytes that it took; how much a write took, that one failed, and how many failed
+-- of a sink: the bytes that it took; how much a write took, that a write failed, and how many failed
 pub record Sinks (O : Type 0) : Type 1 where
   pub written : O → Option (List ℕ)
   pub took : Took O
@@ -46,15 +46,14 @@ HasFailed d name old new = Rose (d.fetch_faults old name) (d.fetch_faults new na
 abbrev pub HasFailedToAppend : {D : Type 0} → Depots D → List ℕ → D → D → Type 0
 HasFailedToAppend d name old new = Rose (d.append_faults old name) (d.append_faults new name)
 
--- a file came: these bytes, no more than so many, came whole by the fetches of its name, and where the depot tells its files they are
--- those of the name
+-- a file came: `bytes`, at most `most`, came whole by the fetches of its name, and where the depot tells its files they are those of the name
 pub record FileCame {D : Type 0} (d : Depots D) (most : ℕ) (name : List ℕ) (old : D) (bytes : List ℕ) (new : D) : Type 0 where
   pub whole : CameWhole d.gave name old bytes new
   pub fits : length bytes ≤ most
   pub held : IfSome (d.files old) (λ files. get files name ≡ Some bytes)
   pub same : d.files new ≡ d.files old
 
--- of a file more than so many bytes came, and where the depot tells its files the name has more
+-- of a file more than `most` bytes came, and where the depot tells its files the name has more
 pub record TooManyCame {D : Type 0} (d : Depots D) (most : ℕ) (name : List ℕ) (old new : D) : Type 0 where
   pub bytes : List ℕ
   pub came : Came d.gave name old bytes new

@@ -16,7 +16,7 @@ TookFor T = T → List ℕ → List ℕ → ℕ → T → Type 0
 abbrev pub TakeFailedFor : Type 0 → Type 1
 TakeFailedFor T = T → List ℕ → List ℕ → T → Type 0
 
--- so many of the bytes were taken, in pieces one after the other: each time all the rest was offered, and some was taken
+-- as many of `bytes` as the number says were taken, in pieces one after the other: each time all the rest was offered, and some was taken
 pub data Went {T : Type 0} (took : Took T) (bytes : List ℕ) (first : T) : ℕ → T → Type 0 where
   Nothing : Went took bytes first 0 first
   Piece : (done count : ℕ) (between last : T) → Went took bytes first done between → 0 < count → took between (drop done bytes) count last → Went took bytes first (done + count) last

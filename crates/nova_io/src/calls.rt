@@ -22,7 +22,7 @@ impl Model for Calls {
 }
 
 impl Calls {
-    /// No calls yet, of which those with these numbers are to fail. Calls are numbered from 1.
+    /// No calls yet, of which those with the numbers `failing` are to fail. Calls are numbered from 1.
     pub(crate) fn new(failing: Vec<u64>) -> Calls
         ensures { result ≡ record { made = 0; faults = 0; failing = failing.items } }
     {

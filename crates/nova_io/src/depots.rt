@@ -35,7 +35,7 @@ pub trait Depot {
     /// Which depot an append that failed left.
     ghost append_failed: { TakeFailedFor Self } = { λ _ _ _ _. Unit {0} };
 
-    /// Fetches bytes of a file from a place on, puts them to the front of the buffer, and says how many came.
+    /// Fetches bytes of the file `name` from `at` on, puts them to the front of `buf`, and says how many came.
     ///
     /// None come only at the end of the file, or where the buffer is empty. What the rest of the buffer holds
     /// afterwards is left open. A name that isn't there is a fault. The answer is Failed only where the count of failed
@@ -54,7 +54,7 @@ pub trait Depot {
         ensures others { OthersStay fetch_faults name.now self.old self.new }
         ensures appends { Stay (append_faults self.old) (append_faults self.new) };
 
-    /// Appends bytes to a file, from the first on, and says how many of them it took.
+    /// Appends `bytes` to the file `name`, from the first on, and says how many of them it took.
     ///
     /// To take none of a piece that isn't empty is a fault. The answer is Failed only where the count of failed appends
     /// to this name rose, and then all bytes are as before. No other name's bytes ever change, and no count but that of

@@ -64,7 +64,7 @@ impl From<AllocError> for FetchFault {
     }
 }
 
-/// Counts a fault. The count stays at its last value.
+/// Counts a fault in `count`. The count stays at its last value.
 pub(crate) fn raise(count: &mut u64) -> Failed
     ensures counted { count.new ≡ raised count.old }
     ensures rose { Rose count.old count.new }

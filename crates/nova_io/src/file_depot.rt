@@ -17,9 +17,9 @@ use std::rt::Files;
 /// It tells no bytes. It counts its failed fetches and its failed appends, each of them for every name, up to the
 /// last value. An append makes the file if it isn't there.
 ///
-/// A fetch opens the file anew. One that can't be moved, as a pipe, stays open for the next fetch and is read on from
-/// where it stands, until it has ended or another fetch comes. A fetch of its bytes from any other place fails, and so
-/// does one after which there is no memory for its name.
+/// A fetch opens the file anew. A file that can't be moved, as a pipe, stays open for the next fetch and is read on from where it stands, until it
+/// has ended or another fetch comes. A fetch of its bytes from any other place fails, and so does a fetch after which there is no memory for its
+/// name.
 #[derive(Drop)]
 pub struct FileDepot<R: Files + Alloc> {
     rt: R,
@@ -37,7 +37,7 @@ impl<R: Files + Alloc> Model for FileDepot<R> {
 }
 
 impl<R: Files + Alloc> FileDepot<R> {
-    /// The files of this runtime, with no fault yet.
+    /// The files of the runtime `rt`, with no failed call counted.
     pub fn new(rt: R) -> FileDepot<R>
         ensures { result ≡ record { fetches = 0; appends = 0 } }
     {
@@ -50,7 +50,7 @@ impl<R: Files + Alloc> FileDepot<R> {
         }
     }
 
-    /// Lets a file stay open for the next fetch of its name. Want of memory for the name is a fault.
+    /// Lets `stream` stay open for the next fetch of `name`. Want of memory for the name is a fault.
     fn keep(&mut self, name: &str, stream: Opened<R::File>) -> Result<(), Failed>
         requires { IsTrue stream.is_stream }
         ensures given { OnOk result (self.new ≡ self.old) }
@@ -63,7 +63,7 @@ impl<R: Files + Alloc> FileDepot<R> {
         }
     }
 
-    /// Fetches bytes of an open file from a place on. If it can't be moved and hasn't ended, it stays open.
+    /// Fetches bytes of `opened`, an open file, from `at` on. If it can't be moved and hasn't ended, it stays open.
     fn fetch_on(
         &mut self,
         mut opened: Opened<R::File>,
@@ -96,7 +96,7 @@ pub(crate) struct Opened<F> {
 }
 
 impl<F: Read + Seek> Opened<F> {
-    /// Fetches bytes from a place on, and stands after those that came.
+    /// Fetches bytes from `at` on, and stands after those that came.
     fn fetch(&mut self, faults: &mut u64, at: u64, buf: &mut [u8]) -> Result<usize, Failed>
         requires { at < 2 ^ 62 }
         ensures within { IfOk result (λ count. count ≤ length buf.new) }

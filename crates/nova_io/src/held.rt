@@ -27,7 +27,7 @@ pub(crate) struct Held {
     store: Store,
 }
 
-/// Takes the memory for the room of each file.
+/// Takes the memory for the room of each of `files`.
 pub(crate) fn hold(alloc: Global, files: Vec<MemFile>) -> Result<Vec<Held>, AllocError>
     ensures bytes { IfOk result (λ held. files_held held.items ≡ files_given files.items) }
     ensures rooms { IfOk result (λ held. rooms_held held.items ≡ rooms_given files.items) }
@@ -41,14 +41,14 @@ pub(crate) fn hold(alloc: Global, files: Vec<MemFile>) -> Result<Vec<Held>, Allo
     Ok(held)
 }
 
-/// The place of the first file of this name.
+/// The place of the first of `files` that is called `name`.
 fn place_of(files: &[Held], name: &str) -> Option<usize>
     ensures { result ≡ position (λ f. bytes_eq name.now (string_bytes f.name)) files.now }
 {
     files.iter().position(|file| name == file.name.as_str())
 }
 
-/// What is held for a name, or None where there is no such file.
+/// What is held for `name`, or None where there is no such file.
 pub(crate) fn store_of<'a>(files: &'a [Held], name: &str) -> Option<&'a Store>
     ensures { option_map (λ store. store.now.bytes) result ≡ get (files_held files.now) name.now }
 {
@@ -56,7 +56,7 @@ pub(crate) fn store_of<'a>(files: &'a [Held], name: &str) -> Option<&'a Store>
     Some(&files[place].store)
 }
 
-/// Appends so many bytes of a piece, from the first on, to a file if there is room for all of it, and else changes nothing.
+/// Appends the first `count` bytes of `piece` to the file `name` if there is room for all of it, and else changes nothing.
 pub(crate) fn put(files: &mut [Held], name: &str, piece: &[u8], count: usize) -> bool
     requires { count ≤ length piece.now }
     ensures fits { IsTrue result ↔ (length piece.now ≤ room_of (rooms_held files.old) name.now) }

@@ -6,7 +6,7 @@ use std::alloc::{AllocError, Allocator};
 use std::rt::Files;
 use std::{fs, io};
 
-/// The file that stayed open for the next fetch, where there is one, and the name of the one that stayed open last.
+/// The file that stayed open for the next fetch, where there is one, and the name of the file that stayed open last.
 #[derive(Drop)]
 pub(crate) struct Kept<F, A: Allocator> {
     name: String<A>,
@@ -14,7 +14,7 @@ pub(crate) struct Kept<F, A: Allocator> {
 }
 
 impl<F: Drop, A: Allocator> Kept<F, A> {
-    /// None yet.
+    /// No file that stays open yet.
     pub(crate) fn new(alloc: A) -> Kept<F, A>
         ensures { result.opened ≡ None }
     {
@@ -22,7 +22,7 @@ impl<F: Drop, A: Allocator> Kept<F, A> {
         Kept { name, opened: None }
     }
 
-    /// The one that is there, where it is this name's and stands at the place. There is none after that.
+    /// Takes the open file out, where it is that of `name` and stands at `at`. None is kept after that.
     fn take(&mut self, name: &str, at: u64) -> Option<Opened<F>>
         ensures named { IfSome result (λ _. string_bytes self.old.name ≡ name.now) }
         ensures place { IfSome result (λ opened. opened.place ≡ at) }
@@ -35,7 +35,7 @@ impl<F: Drop, A: Allocator> Kept<F, A> {
         }
     }
 
-    /// A stream stays open for a name. Where memory is refused for the name, none does.
+    /// Keeps `stream` open for `name`. Where memory is refused for the name, none does.
     pub(crate) fn keep(&mut self, alloc: A, name: &str, stream: Opened<F>) -> Result<(), AllocError>
         requires { IsTrue stream.is_stream }
         ensures named { OnOk result (string_bytes self.new.name ≡ name.now) }
@@ -49,8 +49,7 @@ impl<F: Drop, A: Allocator> Kept<F, A> {
     }
 }
 
-/// The open file that a place of a name is read from: the one that stayed open, where it is this name's and stands
-/// there, else one that is opened.
+/// The open file that `name` is read from at `at`: the file that stayed open, where it is that of `name` and stands there, else the file opened anew.
 pub(crate) fn reach<R: Files + Alloc>(
     rt: &R,
     kept: &mut Kept<R::File, R::A>,

@@ -53,8 +53,8 @@ impl Model for MemDepot {
 }
 
 impl MemDepot {
-    /// A depot of these files, of whose fetches and appends those with these numbers are to fail. Of files with one name
-    /// the first counts. A call takes or gives as many bytes as there are.
+    /// A depot of `files`, of whose fetches and appends those with the numbers `fetches` and `appends` are to fail. Of files with one name the first
+    /// counts. A call takes or gives as many bytes as there are.
     pub fn new(
         alloc: Global,
         files: Vec<MemFile>,
@@ -77,7 +77,7 @@ impl MemDepot {
         })
     }
 
-    /// Bounds the bytes that one call takes or gives from now on, to 1 at least.
+    /// Bounds the bytes that a call takes or gives from now on to `most`, at least 1.
     pub fn set_most(&mut self, most: u64)
         requires { 1 ≤ most }
         ensures { self.new ≡ record self.old { most = most } }
@@ -85,7 +85,7 @@ impl MemDepot {
         self.most = most;
     }
 
-    /// The bytes of a file, or None where there is no such name.
+    /// The bytes of the file `name`, or None where there is no such name.
     pub fn bytes(&self, name: &str) -> Option<&[u8]>
         ensures { option_map (λ bytes. bytes.now) result ≡ get self.now.files name.now }
     {

@@ -37,8 +37,8 @@ impl Model for MemSink {
 }
 
 impl MemSink {
-    /// An empty sink with room for so many bytes, of whose writes those with these numbers are to fail. A write takes as
-    /// many bytes as there are.
+    /// An empty sink with room for `room` bytes, of whose writes those with the numbers `writes` are to fail. A write takes as many bytes as there
+    /// are.
     pub fn new(alloc: Global, room: u64, writes: Vec<u64>) -> Result<MemSink, AllocError>
         ensures { IfOk result (λ sink. sink ≡ record {
           bytes = [];
@@ -54,7 +54,7 @@ impl MemSink {
         })
     }
 
-    /// Bounds the bytes that one write takes from now on, to 1 at least.
+    /// Bounds the bytes that a write takes from now on to `most`, at least 1.
     pub fn set_most(&mut self, most: u64)
         requires { 1 ≤ most }
         ensures { self.new ≡ record self.old { most = most } }
@@ -62,7 +62,7 @@ impl MemSink {
         self.most = most;
     }
 
-    /// The bytes that were taken.
+    /// The bytes that the sink has taken.
     pub fn bytes(&self) -> &[u8]
         ensures { result.now ≡ self.now.bytes }
     {

@@ -23,7 +23,7 @@ pub trait Sink {
     /// Which sink a write that failed left.
     ghost write_failed: { TakeFailed Self } = { λ _ _ _. Unit {0} };
 
-    /// Writes bytes from the first on, and says how many of them were taken.
+    /// Writes `bytes` from the first on, and says how many of them were taken.
     ///
     /// To take none of a piece that isn't empty is a fault. The answer is Failed only where the count of faults rose,
     /// and then what was taken is as before.

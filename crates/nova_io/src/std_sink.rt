@@ -26,7 +26,7 @@ impl<R> Model for StdSink<R> {
 }
 
 impl<R: Print> StdSink<R> {
-    /// The standard output of this runtime, with no fault yet.
+    /// A sink that writes to the standard output of `rt`, with no failed write counted.
     pub fn new(rt: R) -> StdSink<R>
         ensures { result ≡ 0 }
     {

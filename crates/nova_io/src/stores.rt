@@ -24,7 +24,7 @@ impl Model for Store {
 }
 
 impl Store {
-    /// Takes the memory for so many more bytes.
+    /// A store that holds `bytes`, with memory for `room` bytes more.
     pub(crate) fn new(mut bytes: Vec<u8>, room: u64) -> Result<Store, AllocError>
         ensures { IfOk result (λ store. store ≡ record { bytes = bytes.items; room = room }) }
     {
@@ -39,7 +39,7 @@ impl Store {
         self.bytes.as_slice()
     }
 
-    /// Takes so many bytes of a piece, from the first on, if there is room for all of it, and else nothing.
+    /// Takes the first `count` bytes of `piece` if there is room for all of it, and else nothing.
     pub(crate) fn put(&mut self, piece: &[u8], count: usize) -> bool
         requires { count ≤ length piece.now }
         ensures fits { IsTrue result ↔ (length piece.now ≤ self.old.room) }
@@ -54,7 +54,7 @@ impl Store {
         fits
     }
 
-    /// Copies the bytes from a place on to the front of a buffer, as many as there are and fit, and at most so many.
+    /// Copies the bytes from `at` on to the front of `buf`, as many as there are and fit, and at most `most`.
     pub(crate) fn copy_to(&self, at: u64, buf: &mut [u8], most: u64) -> usize
         ensures count { result ≡ min (length self.now.bytes - at) (min most (length buf.new)) }
         ensures front { take result buf.new ≡ take result (drop at self.now.bytes) }

@@ -9,20 +9,20 @@ use std::io::{self, Read, Write};
 
 /// A reader that can be moved to any place of its bytes.
 pub(crate) trait ReadFrom: Read {
-    /// All of its bytes, where they are known.
+    /// All bytes of the file, where they are known.
     ghost bytes: { Self → Option (List ℕ) };
 
     /// The place of the next read, where it is known.
     ghost place: { Self → Option ℕ };
 
-    /// Moves to a place: the next read gives the bytes from there on.
+    /// Moves to `at`: the next read gives the bytes from there on.
     fn move_to(&mut self, at: u64) -> io::Result<()>
         ensures bytes { bytes self.new ≡ bytes self.old }
         ensures place { OnOk result (IfSome (place self.old) (λ _. place self.new ≡ Some at)) }
         ensures moved { OnOk result (IfSome (bytes self.old) (λ all. Self.remaining self.new ≡ Some (drop at all))) };
 }
 
-/// Moves to a place and reads from there.
+/// Moves `file` to `at` and reads from there.
 fn read_from<F: ReadFrom>(file: &mut F, at: u64, buf: &mut [u8]) -> io::Result<usize>
     ensures within { IfOk result (λ count. count ≤ length buf.new) }
     ensures piece { IfOk result (λ count. IfSome (F.bytes file.old) (λ all.
@@ -32,8 +32,7 @@ fn read_from<F: ReadFrom>(file: &mut F, at: u64, buf: &mut [u8]) -> io::Result<u
     file.read(buf)
 }
 
-/// Fetches bytes of an open file from a place on, puts them to the front of the buffer, and says how many came. A fault
-/// is counted.
+/// Fetches bytes of `file`, which is open, from `at` on, puts them to the front of `buf`, and says how many came. A fault is counted.
 pub(crate) fn fetch_from<F: ReadFrom>(
     file: &mut F,
     faults: &mut u64,
@@ -53,7 +52,7 @@ pub(crate) fn fetch_from<F: ReadFrom>(
     }
 }
 
-/// Writes a part of the bytes, from the first on, and flushes it.
+/// Writes a part of `bytes`, from the first on, and flushes it.
 fn write_and_flush<W: Write>(out: &mut W, bytes: &[u8]) -> io::Result<usize>
     ensures within { IfOk result (λ count. count ≤ length bytes.now) }
     ensures taken { IfOk result (λ count. Appends (W.contents out.old) (W.contents out.new) (take count bytes.now)) }
@@ -63,8 +62,8 @@ fn write_and_flush<W: Write>(out: &mut W, bytes: &[u8]) -> io::Result<usize>
     Ok(count)
 }
 
-/// Writes bytes from the first on, flushes them, and says how many were taken. To take none of a piece that isn't empty
-/// is a fault. A fault is counted.
+/// Writes `bytes` from the first on, flushes them, and says how many were taken. To take none of a piece that isn't empty is a fault. A fault is
+/// counted.
 pub(crate) fn put_to<W: Write>(out: &mut W, faults: &mut u64, bytes: &[u8]) -> Result<usize, Failed>
     ensures within { IfOk result (λ count. count ≤ length bytes.now) }
     ensures progress { IfOk result (λ count. count ≡ 0 → length bytes.now ≡ 0) }

@@ -40,7 +40,7 @@ fn fetch_piece<D: Depot>(
     Ok(true)
 }
 
-/// Fetches the whole of a file of at most so many bytes.
+/// Fetches the whole file `name` from `depot`, of at most `most` bytes.
 ///
 /// `most` is below 2^62. The answer is TooLong exactly where more bytes came; the fetches end with the first byte too
 /// many. It is Failed only where the last fetch failed and the count of failed fetches of this name rose, and Memory
@@ -83,7 +83,7 @@ pub fn fetch_all<D: Depot>(
     Err(FetchFault::TooLong)
 }
 
-/// Appends all of the bytes to a file.
+/// Appends all of `bytes` to the file `name` of `depot`.
 ///
 /// The answer is Failed only where the last append failed and the count of failed appends to this name rose. Then a
 /// part of the bytes, from the first on, is appended. Whatever the answer, the depot is as the last of these appends
@@ -109,7 +109,7 @@ pub fn append_all<D: Depot>(depot: &mut D, name: &str, bytes: &[u8]) -> Result<(
     Ok(())
 }
 
-/// Writes all of the bytes.
+/// Writes all of `bytes` to `sink`.
 ///
 /// The answer is Failed only where the last write failed and the sink's count of faults rose. Then a part of the bytes,
 /// from the first on, is out. Whatever the answer, the sink is as the last of these writes left it.

@@ -1,4 +1,4 @@
--- What becomes of one whose call ended, and of the table with the last item of a reply.
+-- What becomes of a context whose call ended, and of the table with the last item of a reply.
 use Rattle.std.proofs.Common.{◌≡◌, ℕ, refl, arith, IsSome}
 use Rattle.std.specs.Prelude.{◌≢◌, Option, Some, None}
 use Rattle.nova_utcb.specs.Files.{IsFile}

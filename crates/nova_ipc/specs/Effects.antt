@@ -30,7 +30,7 @@ caller_by_call other = None
 abbrev pub served_call : Contexts → ℕ → Option ℕ
 served_call cs handler = caller_by_call (caller_in cs handler)
 
--- a reply to the one that is served
+-- a reply to the caller that is served
 abbrev pub replied_among : Contexts → ℕ → Option ℕ → Contexts
 replied_among cs handler (Some caller) = completed_among cs handler caller
 replied_among cs handler None = cs

@@ -10,7 +10,7 @@ use Rattle.nova_ec.specs.Handlers.{IsSame, Begins}
 abbrev pub Serves : EcState → EcState → ℕ → ℕ → ℕ → Bool → Type 0
 Serves x y caller ip identifier items = Begins x y caller Call ip identifier items
 
--- one whose call ended with the status of this number
+-- a context whose call ended with the status of number `code`
 pub record Returns (x y : EcState) (code : ℕ) : Type 0 where
   pub same : IsSame x y
   pub caller : y.caller ≡ x.caller

@@ -14,6 +14,7 @@ use nova_utcb::Utcb;
 /// these holds: `BadCpu` where one of both isn't there, or they are on two processors; `Aborted` where
 /// the handler is dead, or following edges from it meets the caller; `Send` where it is parked;
 /// `Timeout` with the flag; `Help` without it.
+#[inline(always)]
 pub fn admit(ecs: &Ecs, caller: u32, handler: u32, flag: bool) -> Admit
     ensures { result ≡ admitted ecs.now.items caller handler flag }
 {

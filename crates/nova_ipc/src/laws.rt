@@ -16,9 +16,9 @@ ghost use Rattle.nova_ec.specs.Handlers.{AreTogether, IsLost, MayReply, IsWaitin
 ghost use Rattle.nova_ipc.specs.Effects.{sent_among, helped_among, completed_among, aborted_among};
 ghost use Rattle.nova_ipc.specs.Serving.{Serves, Returns};
 
-/// Each answer to a call comes exactly where its condition is the first that holds: `BadCpu` where
-/// both aren't there on one processor, `Aborted` where no reply can come, `Send` where the handler
-/// waits for a call, `Timeout` with the flag, and `Help` without it.
+/// Each answer to a call comes exactly where its condition is the first that holds. These are `BadCpu` where
+/// both aren't there on one processor, `Aborted` where no reply can come, `Send` where the handler waits for a
+/// call, `Timeout` with the flag, and `Help` without it.
 pub fn answers_come_in_order()
     ensures bad_cpu { (cs : Contexts) (caller handler : ℕ) (flag : Bool) →
         (admitted cs caller handler flag ≡ Refused BadCpu) ↔ (AreTogether cs caller handler → ⊥) }
@@ -34,8 +34,7 @@ pub fn answers_come_in_order()
         ↔ (MayReply cs caller handler × (IsWaiting cs handler → ⊥) × (flag ≡ false)) }
 {}
 
-/// The flag says not to wait: a call that is sent with one flag is sent with the other, and one that
-/// waits has none.
+/// The flag says not to wait: a call that is sent with one flag is sent with the other, and a call that waits has none.
 pub fn the_flag_says_not_to_wait()
     ensures sent { (cs : Contexts) (caller handler : ℕ) (flag other : Bool) →
         admitted cs caller handler flag ≡ Send → admitted cs caller handler other ≡ Send }
@@ -57,7 +56,7 @@ pub fn sent_calls_change_both()
         e ≢ caller → e ≢ handler → ec_in (sent_among cs caller handler ip identifier items) e ≡ ec_in cs e }
 {}
 
-/// One that helps has another state, and nothing else changes.
+/// A caller that helps has another state, and nothing else changes.
 pub fn helping_changes_a_state()
     ensures caller { (cs : Contexts) (caller handler : ℕ) → IsSome (ec_in cs caller) →
         ec_in (helped_among cs caller handler) caller ≡ Some (record (ec_of cs caller) { state = Helping handler }) }
@@ -65,8 +64,7 @@ pub fn helping_changes_a_state()
         ec_in (helped_among cs caller handler) e ≡ ec_in cs e }
 {}
 
-/// A reply that is complete parks the handler, without a caller, and the caller returns with 0 in x10.
-/// Nobody else changes.
+/// A reply that is complete parks the handler, without a caller, and the caller returns with 0 in x10. No other context changes.
 pub fn replies_answer_the_caller()
     ensures handler { (cs : Contexts) (handler caller : ℕ) → IsSome (ec_in cs handler) → handler ≢ caller →
         ec_in (completed_among cs handler caller) handler ≡ Some (parked (ec_of cs handler)) }
@@ -76,15 +74,14 @@ pub fn replies_answer_the_caller()
         ec_in (completed_among cs handler caller) e ≡ ec_in cs e }
 {}
 
-/// A caller whose handler is dead returns with 2 in x10. Nobody else changes, and the handler keeps its
-/// caller.
+/// A caller whose handler is dead returns with 2 in x10. No other context changes, and the handler keeps its caller.
 pub fn aborted_calls_answer_the_caller()
     ensures caller { (cs : Contexts) (caller : ℕ) → IsSome (ec_in cs caller) → IsFile (ec_of cs caller).regs →
         (y : EcState) × (ec_in (aborted_among cs caller) caller ≡ Some y) × Returns (ec_of cs caller) y 2 }
     ensures others { (cs : Contexts) (caller e : ℕ) → e ≢ caller → ec_in (aborted_among cs caller) e ≡ ec_in cs e }
 {}
 
-/// The deeds of a turn change the table of execution contexts as these calls do: one that calls, one
+/// The deeds of a turn change the table of execution contexts as these calls do. The deeds are a call, a call
 /// that helps, a reply to a call without items or after its last, and a call whose handler is dead.
 pub fn deeds_change_the_table_so()
     ensures calls { (k : KernelState) (ec handler ip identifier : ℕ) (items : Bool) →

@@ -1,5 +1,4 @@
-//! Calls and replies between threads: whom a call reaches, and what it does to both and to their
-//! message words.
+//! Calls and replies between threads: which handler a call reaches, and what it does to both and their message words.
 #![tactic(auto)]
 
 mod calls;

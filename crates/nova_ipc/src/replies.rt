@@ -8,8 +8,7 @@ use nova_ec::Ecs;
 use nova_range::Status;
 use nova_utcb::Utcb;
 
-/// Copies the message of a reply: word 0, and the untyped words that it counts. All other words of
-/// the caller stay.
+/// Copies the message `from` of a reply into `to`: word 0, and the untyped words that it counts. All other words of the caller stay.
 pub fn answer(from: &Utcb, to: &mut Utcb)
     requires { IsTrue (has_counts from.now) }
     ensures { to.new ≡ copied from.now to.old }
@@ -17,9 +16,9 @@ pub fn answer(from: &Utcb, to: &mut Utcb)
     to.copy_words(from);
 }
 
-/// A reply to a call is complete. The handler, which serves one, is parked, without a caller and with
-/// its registers. Its caller's call ends with `Success`: it is `Ready`, the status is in its x10, and
-/// its pc is after the call.
+/// Completes the reply of `handler` to a call. The handler, which serves one, is parked, without a caller and
+/// with its registers. Its caller's call ends with `Success`: it is `Ready`, the status is in its x10, and its
+/// pc is after the call.
 pub fn complete(ecs: &mut Ecs, handler: u32)
     requires { IsSome (served_call ecs.old.items handler) }
     ensures { ecs.new ≡ with_items ecs.old (replied_among ecs.old.items handler (served_call ecs.old.items handler)) }
@@ -32,9 +31,8 @@ pub fn complete(ecs: &mut Ecs, handler: u32)
     ecs.answer(caller, Status::Success, None);
 }
 
-/// The call of an execution context whose handler is dead ends with `Aborted`: the caller, who is
-/// there, is `Ready`, the status is in its x10, and its pc is after the call. The handler's record
-/// stays.
+/// Ends the call of `caller`, whose handler is dead, with `Aborted`. The caller, which is there, is `Ready`,
+/// the status is in its x10, and its pc is after the call. The handler's record stays.
 pub fn abort(ecs: &mut Ecs, caller: u32)
     requires { IsSome (ec_in ecs.old.items caller) }
     ensures { ecs.new ≡ with_items ecs.old (aborted_among ecs.old.items caller) }

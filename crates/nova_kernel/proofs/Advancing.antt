@@ -45,7 +45,7 @@ use Rattle.nova_turn.specs.declared.parts.Parts.{Parts}
 use Rattle.nova_kernel.proofs.Stores.{entry_seen, length_seen, less_for, stores_for}
 use Rattle.nova_kernel.proofs.Views.{virtual_there}
 
--- WHO IS CHOSEN
+-- WHICH CONTEXT IS CHOSEN
 
 pub is_chosen : (k : KernelState) (cpu : ℕ) (s : Steps) (chosen : Chosen) → (may : MayAdvance k cpu s) → Some chosen ≡ option_map chosen_of (choice k cpu) → chosen ≡ chosen_of may.chosen
 is_chosen k cpu s chosen may is = same_Some chosen (chosen_of may.chosen) (is ∙ ap (option_map chosen_of) may.may.chosen)

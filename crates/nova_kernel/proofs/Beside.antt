@@ -97,7 +97,7 @@ pub times_keep : (n : ℕ) (k : KernelState) (cpu sc : ℕ) → KeepsTables k (c
 times_keep zero k cpu sc = record { contexts = refl; objects = refl; guests = refl }
 times_keep (suc n) k cpu sc = one_keeps k (charged_times n k cpu sc) cpu sc (times_keep n k cpu sc)
 
--- WITH FEWER TURNS THAN ARE LEFT, THE SAME ONE IS NEXT
+-- WITH FEWER TURNS THAN ARE LEFT, THE SAME SCHEDULING CONTEXT IS NEXT
 
 stamp_still : (n q stamp : ℕ) (b : Budget) → n < b.left → (budget_used (is_used n b) n q stamp b).stamp ≡ b.stamp
 stamp_still n q stamp b more = ap (λ (t : Bool). (budget_used t n q stamp b).stamp) (unused n b.left more)

@@ -1,4 +1,4 @@
--- The last of so many turns that are charged at once may begin a quantum anew, with the next stamp.
+-- The last of the turns that are charged at once may begin a quantum anew, with the next stamp.
 use Rattle.std.proofs.Common.{◌≡◌, ◌-◌, ◌^◌, ◌<◌, ◌≤◌, ℕ, List, ap, ◌∙◌, subst, arith}
 use Rattle.std.specs.Prelude.{Option, Some, None, IfSome, option_map, slice_get}
 use Rattle.nova_model.specs.State.{KernelState, entry}
@@ -9,7 +9,7 @@ use Rattle.nova_sched.specs.Queues.{Schedule, queued_at}
 use Rattle.nova_sched.specs.declared.queued.Queued.{Queued}
 use Rattle.nova_turn.specs.Counted.{IsPaidWithin, IsToBeCharged}
 
--- what it paid so far is below the turns that were taken
+-- what it has paid is below the turns that were taken
 few_by : (turns : ℕ) (o : Option Queued) → turns ≤ 2 ^ 31 → IsPaidWithin turns (option_map (λ (e : Queued). e.budget) o) → IfSome o (λ (e : Queued). e.budget.ticks < 2 ^ 64 - 1)
 few_by turns None few paid = tt
 few_by turns (Some e) few paid = omega (arith, few, paid)

@@ -1,4 +1,4 @@
--- The input of a turn is that of the one who is chosen.
+-- The input of a turn is that of the chosen context.
 use Rattle.std.proofs.Common.{◌≡◌, ℕ, refl, ap}
 use Rattle.std.specs.Prelude.{true, false, is_some, Option, Some, None, option_map}
 use Rattle.nova_model.specs.Times.{due_on}
@@ -27,7 +27,7 @@ pub input_idle : (k : KernelState) (cpu g : ℕ) → None ≡ option_map chosen_
 unfolding input
 input_idle k cpu g is = idle_input k g (next_to_act k cpu) is
 
--- who acts next, by whether something is due
+-- the context that acts next, by whether something is due
 pub next_none : (k : KernelState) (cpu : ℕ) → is_some (due_on k.times cpu) ≡ true → None ≡ option_map chosen_of (next_to_act k cpu)
 unfolding next_to_act
 next_none k cpu is = by_due (due_on k.times cpu) is

@@ -54,7 +54,7 @@ known_along k new go (x ∷ xs) all = (go x all.0, known_along k new go xs all.1
 
 -- AN INSTRUCTION THAT GOES ON
 
--- the same ones act in all turns
+-- the same contexts act in all turns
 pub record AreLedOn (k new : KernelState) : Type 0 where
   pub objects : new.objects ≡ k.objects
   pub actors : (ec : ℕ) → actor_in new.contexts ec ≡ actor_in k.contexts ec
@@ -80,7 +80,7 @@ stepped_on k ec (Went regs store) there =
       actors = λ e. same_actor k.contexts (with_ec k.contexts ec y) e (same_state_keeps_chases k.contexts ec e (context k ec) y (there_at k.contexts ec there) refl);
     }
 
--- who pays changes nothing of it
+-- which scheduling context pays changes nothing of it
 pub paid_on : (k s : KernelState) (cpu sc : ℕ) → AreLedOn k s → AreLedOn k (charged s cpu sc)
 unfolding charged
 paid_on k s cpu sc on = by_budget (budget_at s sc)

@@ -49,7 +49,7 @@ use Rattle.nova_kernel.proofs.Known.{chosen_budget, known_along, known_on}
 use Rattle.nova_kernel.proofs.Rides.{bounds_after, counted_along, events_rode, may_count, may_ride_on, ridden_on, ridden_queued, running_after_ride, same_cpus, same_turns, times_on, turns_rode}
 use Rattle.nova_kernel.proofs.Beside.{KeepsTables, beside_context, beside_there, choice_back, still_calm, still_chosen, times_beside, times_keep}
 
--- WHO MAY RIDE, AS THE QUEUES HAVE IT
+-- WHICH CONTEXT MAY RIDE, AS THE QUEUES HAVE IT
 
 may_queued : (k : KernelState) (q : Schedule) (cpu : ℕ) (chosen : Chosen) (most : ℕ) → AreEdges k.contexts → Some chosen ≡ option_map chosen_of (choice k cpu) → IsStepping k chosen.actor →
     cpu < length k.stirs.processors → cpu < length k.times.clocks → k.budgets ≡ budgets_of q (length k.objects) → IsSome (queued_at q chosen.sc) →
@@ -148,7 +148,7 @@ module _ (p q : Parts) (cpu : ℕ) (chosen : Chosen) (x y : Registers) (n most :
   pub cpus_ridden : q.cpus ≡ p.cpus
   cpus_ridden = same_cpus (beside p chosen x) (beside q chosen y) cpu chosen n most may is.few is.goes
 
--- for whom stores are counted stays while turns are charged
+-- the virtual CPUs for which stores are counted stay while turns are charged
 pub seers_paid : (q r : Parts) (cpu sc n ec : ℕ) (s : Seers) → state_of r ≡ charged_times n (state_of q) cpu sc → r.reach ≡ q.reach → AreSeersOf (state_of q) ec s → AreSeersOf (state_of r) ec s
 seers_paid q r cpu sc n ec s charged reach = seers_alike (state_of q) (state_of r) ec s (record {
   objects = ap (λ (k : KernelState). k.objects) charged ∙ (times_keep n (state_of q) cpu sc).objects;

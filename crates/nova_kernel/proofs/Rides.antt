@@ -66,7 +66,7 @@ rides_more n k p new g goes next does = ap (option_and_then (ride g)) goes ∙ (
   by_outcome (Raised reason q0 q1) next = absurd (cc)
   by_outcome (Went regs store) next = refl
 
--- a raise leaves all as it was, so that the next instruction is the one that raised
+-- a raise leaves all as it was, so that the next instruction is that which raised
 pub raise_stays : (k new : KernelState) (g reason q0 q1 : ℕ) → Raise reason q0 q1 ≡ outcome_of (instruction k g) → new ≡ k → Raise reason q0 q1 ≡ outcome_of (instruction new g)
 raise_stays k new g reason q0 q1 raises same = subst (λ (s : KernelState). Raise reason q0 q1 ≡ outcome_of (instruction s g)) (sym same) raises
 
@@ -133,7 +133,7 @@ charged_running : (n : ℕ) (k : KernelState) (cpu sc : ℕ) (r : RevokesState) 
 charged_running zero k cpu sc r are = are
 charged_running (suc n) k cpu sc r are = one_running (charged_times n k cpu sc) cpu sc r (charged_running n k cpu sc r are)
 
--- the same ones act in all turns
+-- the same contexts act in all turns
 pub ridden_on : (k m : KernelState) (g : ℕ) → IsSome (context_at k g) → IsRidden k m g → AreLedOn k m
 ridden_on k m g there is =
     let y : EcState = record (context k g) { regs = is.regs } in record {
@@ -165,7 +165,7 @@ counted_turn law cpu c q acts does few counts =
     subst IsCounted (settled_state q mid new cpu (chosen_of c) Steps (written_frame q g) s)
     (settled_counts q mid new cpu (chosen_of c) Steps (written_frame q g) s (done-keeps q g Steps tt) few (law q cpu counts.kept) counts)
 
--- who has a budget is queued
+-- a scheduling context that has a budget is queued
 pub queued_there : (q : Schedule) (count sc : ℕ) → IsSome (entry (slice_get (budgets_of q count) sc)) → IsSome (queued_at q sc)
 queued_there q count sc there = by_entry (queued_at q sc) (subst (λ (o : Option Budget). IsSome o) (budget_queued q count sc) there)
   where
@@ -274,7 +274,7 @@ pub told_event : (cpu : ℕ) (chosen : Chosen) (o : Option Candidate) → Some c
 told_event cpu chosen None told = absurd (cc)
 told_event cpu chosen (Some c) told = ap (λ (d : Chosen). Some (step_by cpu d)) (same_Some chosen (chosen_of c) told)
 
--- WHERE ONE MAY
+-- WHERE A CONTEXT MAY
 
 record IsChosen (k : KernelState) (cpu : ℕ) (chosen : Chosen) : Type 0 where
   candidate : Candidate

@@ -1,4 +1,4 @@
--- So many turns charged at once, as the queues and counts show them.
+-- Many turns charged at once, as the queues and counts show them.
 use Rattle.std.proofs.Common.{◌≡◌, ◌<◌, ◌≤◌, ℕ, zero, suc, ◌+◌, ◌^◌, List, length, ap, sym, ◌∙◌, refl, arith, subst, [], ◌∷◌, slice_index_or}
 use Rattle.std.specs.Prelude.{slice_get, slice_set, slice_index, Option, Some, None, IsSome, IfSome, option_map}
 use Rattle.std.proofs.lemmas.List.{set-get_or, set-set, get_or-set_same}
@@ -20,7 +20,7 @@ pay_some : (s : Schedule) (sc : ℕ) (o : Option Queued) → queued_at s sc ≡ 
 pay_some s sc None is there = absurd cc
 pay_some s sc (Some e) is there = rw (set_same s.entries sc e _ is) refl
 
--- the state with the budgets of queues, and so many turns more
+-- the state with the budgets of queues, and `n` turns more
 abbrev pub shown_with : KernelState → ℕ → Schedule → ℕ → KernelState
 shown_with k cpu s n = record k {
   budgets = budgets_of s (length k.objects);
@@ -50,7 +50,7 @@ none_shown k s cpu budgets stamp = λ i. record k {
     turns : k.turns ≡ k.turns + 0
     turns = omega arith
 
--- one more where so many were added to a number
+-- one more where `n` were added to a number
 one_more : (xs : List ℕ) (cpu n : ℕ) → cpu < length xs →
     slice_set (slice_set xs cpu (slice_index xs cpu + n)) cpu (slice_index (slice_set xs cpu (slice_index xs cpu + n)) cpu + 1) ≡ slice_set xs cpu (slice_index xs cpu + suc n)
 one_more xs cpu n within =

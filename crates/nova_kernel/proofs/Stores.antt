@@ -23,7 +23,7 @@ is_in g ns = list_any (λ m. m == g) ns
 abbrev pub but : (ℕ → ℕ) → List ℕ → ℕ → ℕ
 but more left g = if is_in g left then 0 else more g
 
--- the stores to where the memory of each leads, but of the one who stores
+-- the stores to where the memory of each leads, but of the context that stores
 abbrev pub stores_for : KernelState → ℕ → List Page → ℕ → ℕ
 stores_for k ec pages g = if ec == g then 0 else stores_seen (is_covered_for k (pd_of k g)) pages
 
@@ -107,7 +107,7 @@ but_none more counts i all = ap (λ (left : List ℕ). grown (but more left) 0 c
     dropped (n ∷ ns) zero h = absurd (omega (arith, h))
     dropped (n ∷ ns) (suc j) h = dropped ns j (omega (arith, h))
 
--- the one whose turn it is
+-- the virtual CPU whose turn it is
 next_here : (more : ℕ → ℕ) (m : ℕ) (rest : List ℕ) → but more (m ∷ rest) m ≡ 0
 next_here more m rest = ap (λ (t : Bool). if t || is_in m rest then 0 else more m) (let e : (m == m) ≡ true = grind arith in e)
 
@@ -198,7 +198,7 @@ all_seen k ec pages n (None ∷ counts) = ap (λ (cs : List (Option ℕ)). None 
 all_seen k ec pages n (Some count ∷ counts) =
     ap₂ (λ (m : ℕ) (cs : List (Option ℕ)). Some m ∷ cs) (one_count k ec pages n count) (all_seen k ec pages (n + 1) counts)
 
--- of the one who stores none is counted, of another those that are seen
+-- of the context that stores none is counted, of another those that are seen
 pub none_for : (k : KernelState) (ec : ℕ) (pages : List Page) (g : ℕ) → (g == ec) ≡ true → stores_for k ec pages g ≡ 0
 none_for k ec pages g same = let e : (ec == g) ≡ true = grind (arith, same) in ap (λ (t : Bool). if t then 0 else stores_seen (is_covered_for k (pd_of k g)) pages) e
 

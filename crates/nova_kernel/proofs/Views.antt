@@ -1,4 +1,4 @@
--- Who has a view.
+-- The execution contexts that have a view.
 use Rattle.std.proofs.Common.{◌≡◌, refl, ℕ, ◌+◌, List, [], ◌∷◌}
 use Rattle.std.specs.Prelude.{Some, None, slice_get, zero, suc, IsSome, map}
 use Rattle.nova_model.specs.Capabilities.{is_vcpu}

@@ -15,3 +15,4 @@ pub mod Views
 pub mod Known
 pub mod Rides
 pub mod Begun
+pub mod Sound

@@ -1,4 +1,4 @@
--- Where the one who acts on a processor may take so many instructions at once.
+-- Where the context that acts on a processor may take many instructions at once.
 use Rattle.std.specs.Prelude.{◌≡◌, ◌+◌, ◌-◌, ◌^◌, ◌<◌, ◌≤◌, ℕ, List, [], replicate, slice_get, false, Option, Some, None, IsSome, IfSome, option_map, Result, Ok, Err}
 use Rattle.rv_core.specs.declared.outcome.Outcome.TheVariants.{Raise}
 use Rattle.rv_model.specs.Registers.{Registers}
@@ -30,7 +30,7 @@ use Rattle.nova_choice.specs.declared.choice.Chosen.{Chosen}
 use Rattle.law_turns.specs.Moments.{IsEarly}
 use Rattle.law_leases.specs.Rides.{IsRideable}
 
--- the state after so many turns of one processor
+-- the state after `n` turns of one processor
 abbrev pub after_turns : KernelState → ℕ → ℕ → KernelState
 after_turns k cpu n = run k (replicate n cpu)
 
@@ -40,7 +40,7 @@ last_turns None = 0
 last_turns (Some (Ok t)) = turns_taken t
 last_turns (Some (Err e)) = 0
 
--- the event of a plain step of the one who is chosen
+-- the event of a plain step of the chosen context
 abbrev pub step_by : ℕ → Chosen → Event
 step_by cpu chosen = record { cpu = cpu; sc = chosen.sc; ec = chosen.actor; kind = Step; a = 0; b = 0 }
 
@@ -48,7 +48,7 @@ step_by cpu chosen = record { cpu = cpu; sc = chosen.sc; ec = chosen.actor; kind
 abbrev pub Raises : KernelState → ℕ → Raised → Type 0
 Raises k ec r = Raise r.reason r.q0 r.q1 ≡ outcome_of (instruction k ec)
 
--- nothing is due on the processor, it is the chosen one who acts there next, and the instruction that is next raises this
+-- nothing is due on the processor, the chosen context acts there next, and its next instruction raises `r`
 pub record IsHalted (k : KernelState) (cpu : ℕ) (chosen : Chosen) (r : Raised) : Type 0 where
   pub none_due : due_on k.times cpu ≡ None
   pub told : Some chosen ≡ option_map chosen_of (choice k cpu)
@@ -79,16 +79,16 @@ pub record MayCount (k : KernelState) : Type 0 where
 abbrev pub without_counts : KernelState → KernelState
 without_counts k = record k { stirs = record k.stirs { guests = [] } }
 
--- the processor's next turn is of this scheduling context, which pays, and of this one, who acts, unless something is due
+-- the processor's next turn is of the chosen scheduling context, which pays, and of the chosen context, which acts, unless something is due
 pub record IsNext (p : Parts) (cpu : ℕ) (chosen : Chosen) : Type 0 where
   pub told : Some chosen ≡ option_map chosen_of (choice (state_of p) cpu)
   pub pays : IsSome (queued_at p.queues.all chosen.sc)
 
--- the state with registers that lie beside the table of the one who acts
+-- the state with registers that lie beside the table of the context that acts
 abbrev pub beside : Parts → Chosen → Registers → KernelState
 beside p chosen regs = with_regs (state_of p) chosen.actor regs
 
--- so the one who acts may go on, whose address space was entered; what is said of registers holds of those beside the table
+-- so the context that acts may go on, whose address space was entered; what is said of registers holds of those beside the table
 pub record IsBeside (p : Parts) (chosen : Chosen) (regs : Registers) : Type 0 where
   pub acts : IsStepping (state_of p) chosen.actor
   pub entered : IsEntered p chosen.actor
@@ -96,7 +96,7 @@ pub record IsBeside (p : Parts) (chosen : Chosen) (regs : Registers) : Type 0 wh
   pub counted : IsCounted (beside p chosen regs)
   pub running : AreRunning (beside p chosen regs) p.revokes
 
--- so many plain steps of the chosen one lead from one state to another
+-- `n` plain steps of the chosen context lead from one state to another
 pub record AreSteps (k m : KernelState) (cpu : ℕ) (chosen : Chosen) (n : ℕ) : Type 0 where
   pub state : m ≡ run k (replicate n cpu)
   pub events : trace k (replicate n cpu) ≡ replicate n (step_by cpu chosen)

@@ -3,13 +3,8 @@ use Rattle.std.specs.Prelude.{ℕ, Option}
 use Rattle.nova_model.specs.Delegations.{from_id}
 use Rattle.nova_model.specs.State.{KernelState}
 use Rattle.nova_model.specs.declared.delegation.Derivation.{Derivation}
--- of budgets, semaphores and turns
-pub use Rattle.nova_turn.specs.Views.{ticks_of, left_of, semaphore_at, turns_taken, HasMade, IsMaking}
-
--- the state, and how many more bytes the console log takes
-pub record KernelView : Type 0 where
-  pub state : KernelState
-  pub room : ℕ
+-- its state and room, budgets and semaphores, and what a turn leaves
+pub use Rattle.nova_turn.specs.Views.{KernelView, ticks_of, left_of, semaphore_at, turns_taken, HasMade, IsMaking, IsTurnTaken}
 
 -- the derivation of least id at or after a given one
 abbrev pub derivation_from : KernelState → ℕ → Option Derivation

@@ -15,7 +15,7 @@ ghost use Rattle.nova_kernel.specs.Rides.{without_counts};
 use law_leases::{Page, Steps};
 use nova_turn::{Parts, Reach};
 
-/// The bytes of copied frames take the place of those of the frames, where a store went to the copy.
+/// Writes the bytes of the copies `pages` to their frames, where a store went to the copy.
 fn write_pages(reach: &mut Reach, pages: &[Page])
     requires { AreFrames reach.old.memory.ram pages.now }
     ensures { reach.new ≡ record reach.old { memory = record reach.old.memory { ram = pages_written (stored_to pages.now) reach.old.memory.ram } } }
@@ -27,8 +27,7 @@ fn write_pages(reach: &mut Reach, pages: &[Page])
     }
 }
 
-/// How many of the stores that pages count went to frames to which the memory of a protection domain
-/// leads. All together are below 2^64.
+/// How many of the stores that pages count went to frames to which the memory of the protection domain `pd` leads. All together are below 2^64.
 fn stores_seen(parts: &Parts, pd: u32, pages: &[Page]) -> u64
     requires { stores_seen (λ f. true) pages.now < 2 ^ 64 }
     ensures { result ≡ stores_seen (is_covered_for (state_of parts.now) pd) pages.now }
@@ -42,7 +41,7 @@ fn stores_seen(parts: &Parts, pd: u32, pages: &[Page]) -> u64
     count
 }
 
-/// Counts the stores of an execution context for each other virtual CPU whose memory leads to where they
+/// Counts the stores of the execution context `ec` for each other virtual CPU whose memory leads to where they
 /// went. All together, and with the count of each, are below 2^64.
 fn count_stores(parts: &mut Parts, ec: u32, pages: &[Page])
     requires stores { stores_seen (λ f. true) pages.now < 2 ^ 64 }
@@ -59,7 +58,7 @@ fn count_stores(parts: &mut Parts, ec: u32, pages: &[Page])
     }
 }
 
-/// So many turns of the processor, at most what is left of the quantum, are charged to the scheduling context.
+/// Charges `count` turns of the processor `cpu`, at most what is left of the quantum, to the scheduling context `sc`.
 pub(crate) fn charge_times(parts: &mut Parts, cpu: u32, sc: u32, count: u64)
     requires charged { IsToBeCharged (without_counts (state_of parts.old)) }
     requires queued { AreQueued (state_of parts.old) parts.old.queues.all }
@@ -84,9 +83,9 @@ pub(crate) fn charge_times(parts: &mut Parts, cpu: u32, sc: u32, count: u64)
     parts.times.pass(cpu, count);
 }
 
-/// As many turns of a processor as the virtual CPU that acts there took instructions, at once: they are
-/// charged, and the virtual CPU has the registers, its frames the bytes, and others the stir counts that
-/// these leave.
+/// Takes the turns of `steps` on the processor `cpu` at once, as many as its virtual CPU took instructions.
+/// They are charged, and the virtual CPU has the registers, its frames the bytes, and others the stir counts
+/// that these leave.
 pub fn advance(parts: &mut Parts, cpu: u32, steps: &Steps)
     requires counted { IsCounted (state_of parts.old) }
     requires reached { IsReached (state_of parts.old) }

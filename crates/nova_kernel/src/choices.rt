@@ -11,8 +11,8 @@ use nova_choice::Chosen;
 use nova_model::{EventKind, Turn};
 use nova_turn::Parts;
 
-/// What is known after a turn: an instruction that went on leaves all choices, and its own is known then. Any
-/// other deed may lead turns elsewhere, so that nothing is known.
+/// Keeps in `known` what is known after `turn`: an instruction that went on leaves all choices, and its own is
+/// known then. Any other deed may lead turns elsewhere, so that nothing is known.
 pub fn keep(known: &mut [Option<Chosen>; 8], turn: &Turn)
     ensures { known.new ≡ known_after turn.now known.old }
 {
@@ -32,7 +32,7 @@ pub fn keep(known: &mut [Option<Chosen>; 8], turn: &Turn)
     }
 }
 
-/// The scheduling context that a processor's next turn is charged to, and who acts in it; none where something is due, and where
+/// The scheduling context that the next turn of the processor `cpu` is charged to, and the context that acts in it; none where something is due or
 /// nothing is runnable.
 pub fn next_to_act(parts: &Parts, cpu: u32, known: &[Option<Chosen>]) -> Option<Chosen>
     requires queued { AreQueued (state_of parts.now) parts.now.queues.all }

@@ -8,7 +8,6 @@ ghost use Rattle.std.specs.List.{AllByRecursion};
 ghost use Rattle.nova_model.specs.declared.times.AlarmState.{AlarmState};
 ghost use Rattle.nova_model.specs.Choice.{choice, choose, is_quiet};
 ghost use Rattle.nova_model.specs.Delegations.{reach};
-ghost use Rattle.nova_model.specs.Turn.{turn, state_after, answer_of};
 ghost use Rattle.nova_model.specs.Runs.{run, trace};
 ghost use Rattle.nova_model.specs.Boot.{bare, laid};
 ghost use Rattle.nova_model.specs.Forest.{IsForest};
@@ -20,7 +19,7 @@ ghost use Rattle.nova_turn.specs.Given.{BringsBytes};
 ghost use Rattle.nova_turn.specs.Stirs.{stir_of};
 ghost use Rattle.law_leases.specs.Advances.{step_of};
 ghost use Rattle.law_leases.specs.Commits.{IsReached, MayAdvance};
-ghost use Rattle.nova_kernel.specs.Views.{ticks_of, left_of, semaphore_at, derivation_from, turns_taken, IsMaking};
+ghost use Rattle.nova_kernel.specs.Views.{ticks_of, left_of, semaphore_at, derivation_from, IsTurnTaken};
 
 use crate::burst::advance;
 use crate::choices::{keep, next_to_act};
@@ -46,18 +45,13 @@ impl Model for Kernel {
 
     ghost Value = { KernelView };
 
-    ghost use Rattle.nova_turn.specs.Parts.{state_of};
-    ghost use Rattle.nova_turn.specs.Counted.{IsCounted};
+    ghost use Rattle.nova_turn.specs.Parts.{view_of};
 
-    ghost view = { λ k. record { state = state_of k.parts; room = k.parts.reach.room } };
+    ghost view = { λ k. view_of k.parts };
 
-    ghost use Rattle.nova_choice.specs.Schedules.{AreQueued};
-    ghost use Rattle.nova_turn.specs.Revoking.{AreRunning};
-    ghost use Rattle.law_leases.specs.Commits.{IsReached};
-    ghost use Rattle.nova_turn.specs.Known.{AreKnown};
-    ghost use Rattle.nova_kernel.specs.Begun.{IsBegun};
+    ghost use Rattle.nova_kernel.specs.Sound.{IsSoundKernel};
 
-    ghost invariant = { λ k. IsCounted (state_of k.parts) × (AreQueued (state_of k.parts) k.parts.queues.all × (AreRunning (state_of k.parts) k.parts.revokes × (IsReached (state_of k.parts) × (AreKnown (state_of k.parts) k.known × IsBegun (state_of k.parts))))) };
+    ghost invariant = { λ k. IsSoundKernel k.parts k.known };
 }
 
 impl Kernel {
@@ -98,6 +92,18 @@ impl Kernel {
         })
     }
 
+    /// Makes the state that of `from`, in memory of its own: a kernel is large, and to make one takes far longer. The console log has
+    /// no room for more bytes, so that it takes no turn until `reserve_log` makes some. Where memory is refused nothing has changed.
+    pub fn restore(&mut self, from: &Kernel) -> Result<(), AllocError>
+        ensures state { OnOk result (self.new.state ≡ from.now.state) }
+        ensures room { OnOk result (self.new.room ≡ 0) }
+        ensures err { OnErr result (self.new ≡ self.old) }
+    {
+        self.parts.restore(&from.parts)?;
+        self.known = [None; 8];
+        Ok(())
+    }
+
     /// Lays bytes into RAM one after another from an address on. They lie in RAM, and no turn was taken yet: what is laid is no
     /// input of a virtual CPU, so it comes before there is one.
     #[tactic(auto, using(crate::proofs::Laid::laid_length, crate::proofs::Begun::laid_begun))]
@@ -120,14 +126,7 @@ impl Kernel {
         requires cpu { cpu < self.old.state.cpus }
         requires room { 0 < self.old.room }
         requires turns { self.old.state.turns < 2 ^ 31 }
-        ensures answer { IfOk result (λ t. t ≡ answer_of (turn self.old.state cpu)) }
-        ensures state { OnOk result (self.new.state ≡ state_after self.old.state (turn self.old.state cpu)) }
-        ensures memory { OnErr result (self.new ≡ self.old) }
-        ensures making { OnErr result (IsMaking self.old.state cpu) }
-        ensures room { self.old.room ≤ self.new.room + 1 }
-        ensures idle { IfOk result (λ t. t ≡ Turn.Idle → self.new ≡ self.old) }
-        ensures counted { IfOk result (λ t. self.new.state.turns ≡ self.old.state.turns + turns_taken t) }
-        ensures cpus { self.new.state.cpus ≡ self.old.state.cpus }
+        ensures { IsTurnTaken self.old self.new cpu result }
     {
         law_leases::laws::what_bursts_stand_on_is_kept();
         let turn = self.parts.turn(cpu, &self.known)?;

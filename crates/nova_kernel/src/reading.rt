@@ -17,28 +17,28 @@ impl Kernel {
         self.parts.reach.reserve_log(bytes)
     }
 
-    /// The message words of a thread; none where no thread has the number.
+    /// The message words of the thread `ec`; none where no thread has the number.
     pub fn words(&self, ec: u32) -> Option<&Utcb>
         ensures { option_map (λ words. words.now) result ≡ entry (slice_get self.now.state.messages ec) }
     {
         self.parts.reach.words(ec)
     }
 
-    /// Who waits at a semaphore, in the order in which it came; nobody where no semaphore has the number.
+    /// The execution contexts that wait at the semaphore `sm`, in the order in which they came; none where no semaphore has the number.
     pub fn queue(&self, alloc: Global, sm: u32) -> Result<Vec<u32>, AllocError>
         ensures { IfOk result (λ queue. queue.items ≡ (semaphore self.now.state.semaphores sm).waiting) }
     {
         self.parts.semaphores.queue(alloc, sm)
     }
 
-    /// The identifier of a portal; none where no portal has the number.
+    /// The identifier of the portal `pt`; none where no portal has the number.
     pub fn identifier(&self, pt: u32) -> Option<u32>
         ensures { result ≡ entry (slice_get self.now.state.identifiers pt) }
     {
         *self.parts.identifiers.get(pt as usize)?
     }
 
-    /// How far an execution context is with the items that it gives; none where no execution context has the number.
+    /// How far the execution context `ec` is with the items that it gives; none where no execution context has the number.
     pub fn transfer(&self, ec: u32) -> Option<Transfer>
         ensures { result ≡ transfer_at self.now.state ec }
     {

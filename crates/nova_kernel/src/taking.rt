@@ -6,13 +6,13 @@ ghost use Rattle.nova_model.specs.Turn.{turn, state_after, answer_of};
 ghost use Rattle.nova_choice.specs.Choices.{chosen_of};
 ghost use Rattle.law_leases.specs.Advances.{step_of};
 ghost use Rattle.nova_kernel.specs.Rides.{IsHalted, after_turns, last_turns, step_by};
-ghost use Rattle.nova_kernel.specs.Views.{IsMaking, turns_taken};
+ghost use Rattle.nova_kernel.specs.Views.{IsMaking, IsTurnTaken};
 
 use crate::choices::keep;
 use crate::kernel::Kernel;
 use crate::riding::{Ridden, StepsTaken, is_stepping, none_tried, plain_step, quanta};
 use nova_choice::Chosen;
-use nova_model::Turn;
+use nova_model::{Event, Turn};
 use nova_turn::Raised;
 use std::alloc::AllocError;
 
@@ -52,19 +52,21 @@ impl Kernel {
         requires room { 0 < self.old.room }
         requires turns { self.old.state.turns < 2 ^ 31 }
         requires halted { IsHalted self.old.state cpu chosen raised }
-        ensures answer { IfOk result (λ t. t ≡ answer_of (turn self.old.state cpu)) }
-        ensures state { OnOk result (self.new.state ≡ state_after self.old.state (turn self.old.state cpu)) }
-        ensures memory { OnErr result (self.new ≡ self.old) }
-        ensures making { OnErr result (IsMaking self.old.state cpu) }
-        ensures room { self.old.room ≤ self.new.room + 1 }
-        ensures idle { IfOk result (λ t. t ≡ Turn.Idle → self.new.room ≡ self.old.room) }
-        ensures counted { IfOk result (λ t. self.new.state.turns ≡ self.old.state.turns + turns_taken t) }
-        ensures cpus { self.new.state.cpus ≡ self.old.state.cpus }
+        ensures { IsTurnTaken self.old self.new cpu result }
     {
         law_leases::laws::what_bursts_stand_on_is_kept();
         let turn = self.parts.settle(cpu, chosen, Some(raised))?;
         keep(&mut self.known, &turn);
         Ok(turn)
+    }
+
+    /// The event of a plain step in a processor's next turn, unless something is due there: the chosen scheduling context pays, and the
+    /// execution context to which its turns lead acts. None where none is chosen.
+    pub fn plain_step(&self, cpu: u32) -> Option<Event>
+        ensures { result ≡ option_map (step_of cpu) (choice self.now.state cpu) }
+    {
+        let chosen = self.parts.choice(cpu, &self.known)?;
+        Some(plain_step(cpu, chosen))
     }
 
     /// As many turns of a processor as instructions of the execution context that acts there go on one after another, at once: at most

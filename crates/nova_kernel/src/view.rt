@@ -8,8 +8,7 @@ use nova_model::State;
 use nova_turn::Parts;
 use std::alloc::{AllocError, Global};
 
-/// The state of a virtual CPU, as a guest has it: an exit that is raised and not sent is the same whether
-/// it waits for its handler or not.
+/// The state of a virtual CPU in `state`, as a guest has it: an exit that is raised and not sent is the same whether it waits for its handler or not.
 fn guest_state(state: State) -> GuestState
     ensures { result ≡ guest_state state }
 {
@@ -24,7 +23,7 @@ fn guest_state(state: State) -> GuestState
     }
 }
 
-/// The view of an execution context: the guest that the state has in it.
+/// The view of the execution context `ec`: the guest that the state has in it.
 #[tactic(auto, unfolding(nova_model::specs::Views::view))]
 pub fn guest_of(parts: &Parts, alloc: Global, ec: u32) -> Result<Guest, AllocError>
     requires { IsSome (context_at (state_of parts.now) ec) }

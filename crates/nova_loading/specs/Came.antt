@@ -31,7 +31,7 @@ pub record NoScenarioCame {D : Type 0} (d : Depots D) (name : List ℕ) (line : 
   pub came : FileCame d most_of_scenario name old bytes new
   pub invalid : scenario bytes ≡ Err (record { line = line; why = why })
 
--- a file came whose bytes are the text of these blocks, of processors below `cpus` and of at most so many turns; or are no order, with this fault
+-- a file came whose bytes are the text of these blocks, of processors below `cpus` and of at most `most` turns; or are no order, with this fault
 pub record OrderCame {D : Type 0} (d : Depots D) (name : List ℕ) (cpus most : ℕ) (old : D) (blocks : List Block) (new : D) : Type 0 where
   pub bytes : List ℕ
   pub came : FileCame d most_of_order name old bytes new

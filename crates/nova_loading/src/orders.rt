@@ -14,7 +14,7 @@ use std::alloc::Global;
 /// The most bytes of an order.
 const MOST_OF_ORDER: u64 = 64 * 1024 * 1024;
 
-/// Fetches the file of a name, of at most 64 MiB, and reads it as an order of processors below `cpus` and of at most `most` turns.
+/// Fetches the file `name`, of at most 64 MiB, and reads it as an order of processors below `cpus` and of at most `most` turns.
 ///
 /// `Refused` comes exactly where the bytes that came are none. Whatever comes, the depot's files are as before, and no count but that of failed
 /// fetches of the name changed.

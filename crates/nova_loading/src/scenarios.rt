@@ -14,7 +14,7 @@ use std::alloc::Global;
 /// The most bytes of a scenario.
 const MOST_OF_SCENARIO: u64 = 16 * 1024 * 1024;
 
-/// Fetches the file of a name, of at most 16 MiB, and reads it as a scenario.
+/// Fetches the file `name`, of at most 16 MiB, and reads it as a scenario.
 ///
 /// `Refused` comes exactly where the bytes that came are none. Whatever comes, the depot's files are as before, and no count but that of failed
 /// fetches of the name changed.

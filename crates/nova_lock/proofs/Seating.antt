@@ -160,7 +160,7 @@ module _ {T O : Type 0} (opens : T → O) (history : T → List ℕ) (uses : T �
         unmade = λ i le. r.unmade i (omega (arith, le, long, longer));
       }
 
-  -- at the end nobody has the value
+  -- at the end no seat has the value
   pub closes : (k : T) (id : ℕ) (v : View T) (ws : List ℕ) (xs : List T) (x : T) → v.phase ≡ Idle → v.number ≡ 0 → ((i : ℕ) → 0 < i → i < v.made → (f : List ℕ) × Contains v.kept (i, f))
       → Final (Seen (H k) id v) ws xs → get_elem? xs 0 ≡ some x → Closes opens history uses k v x
   closes k id v ws xs x idle zeroth all f here =

@@ -113,7 +113,7 @@ module _ {T O : Type 0} (opening : T → O) (history : T → List ℕ) (uses : T
     (r.ticket, sym (ap (λ (ws : List ℕ). get_or ws 0 0) r.words), refl),
   )
 
-  -- nobody else has the value while the seat that is served waits
+  -- no other seat has the value while the seat that is served waits
   alone : (k : T) (s : St) (r : H k s) (id : ℕ) (v : View T) → get_elem? s.views id ≡ some v → is_queued v.phase ≡ true → v.ticket ≡ r.serving
       → (i : ℕ) (u : View T) → i ≢ id → get_elem? s.views i ≡ some u → u.phase ≢ Called
   alone k s r id v at queued-v served i u ne e called =

@@ -24,7 +24,7 @@ pub record IsSeatOf {T : Type 0} (l : LockView T) (s : SeatView T) : Type 0 wher
   pub lock : s.lock ≡ l.id
   pub opened : s.opened ≡ Some l.opened
 
--- it is the one of this number
+-- it is the seat of number `n`
 pub record IsSeat {T : Type 0} (l : LockView T) (n : ℕ) (s : SeatView T) : Type 0 where
   pub lock : s.lock ≡ l.id
   pub opened : s.opened ≡ Some l.opened

@@ -34,7 +34,7 @@ module _ {T : Type 0} where
   abbrev pub Apart : View T → View T → Type 0
   Apart v w = is_queued v.phase ≡ true → is_queued w.phase ≡ true → v.ticket ≢ w.ticket
 
-  -- the ticket of a seat in line is served, or is yet to be; whoever is served has the value, and its history is the present one
+  -- the ticket of a seat in line is served, or is yet to be; the seat that is served has the value, and its history is the present one
   abbrev pub Lines : ℕ → ℕ → List ℕ → List (Option T) → View T → Phase → Type 0
   Lines ticket serving now homes v Idle = Unit {0}
   Lines ticket serving now homes v Waiting = (serving ≤ v.ticket) × (v.ticket < ticket)

@@ -1,14 +1,14 @@
 use crate::called::Historied;
 use crate::lock::HistoryLock;
 
-/// What the lock calls for those who sleep. To the lock, which knows no bell, nothing but its call says that it was rung.
+/// What the lock calls to wake threads that sleep. To the lock, which knows no bell, nothing but its call says that it was rung.
 pub(crate) trait Bell {
     ghost use Rattle.std.specs.Prelude.{◌≢◌, ℕ};
 
     /// That it was rung for a ticket. A bell need not say what that means.
     ghost rung: { Self → ℕ → Type 0 } = { λ _ _. Unit {0} };
 
-    /// Has whoever sleeps until the ticket `served` is served look again. The next ticket to be drawn is `drawn`, modulo 2^64: another one.
+    /// Has each thread that sleeps until the ticket `served` is served look again. The next ticket to be drawn is `drawn`, modulo 2^64, not `served`.
     fn ring(&self, served: u64, drawn: u64)
         requires { drawn ≢ served }
         ensures { rung self.now served };

@@ -1,5 +1,4 @@
-//! A ticket lock whose value has a history: what a seat saw of it begins every later history, and whoever closes the lock learns what all
-//! seats saw.
+//! A ticket lock whose value has a history: what a seat saw of it begins every later history, and closing the lock tells what all seats saw.
 #![tactic(auto)]
 
 mod bell;

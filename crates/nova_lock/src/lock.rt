@@ -64,7 +64,7 @@ impl<T: Historied> Model for Seat<T> {
 }
 
 impl<T: Historied> HistoryLock<T> {
-    /// The lock of a value, with seat 0. Where memory is refused the value comes back.
+    /// The lock of `value`, with seat 0. Where memory is refused the value comes back.
     fn open(
         alloc: Global,
         value: T,
@@ -100,7 +100,7 @@ impl<T: Historied> HistoryLock<T> {
         }
     }
 
-    /// All seats in order, in the room of a list.
+    /// All seats in order, in the room of `list`.
     fn seat_all(&self, first: Seat<T>, mut list: Vec<Seat<T>>) -> Vec<Seat<T>>
         requires own { (first.lock ≡ self.now.id) × (first.opened ≡ Some self.now.opened) × (first.number ≡ 0) × (first.made ≡ 1) × (first.kept ≡ []) × (first.front ≡ []) }
         requires room { (list.items ≡ []) × (0 < self.now.seats) × (self.now.seats ≤ vec_capacity list) }
@@ -120,8 +120,8 @@ impl<T: Historied> HistoryLock<T> {
         list
     }
 
-    /// A lock of a value with an empty history, and its seats in order: seat i has number i. There is at least one. Where memory is
-    /// refused the value comes back.
+    /// A lock of `value` with an empty history, and its `seats` seats in order: seat i has number i. There is at least one. Where memory is refused
+    /// the value comes back.
     pub fn new(
         alloc: Global,
         value: T,
@@ -150,7 +150,7 @@ impl<T: Historied> HistoryLock<T> {
         }
     }
 
-    /// Takes the next ticket.
+    /// Takes the next ticket for `seat`.
     fn draw(&self, seat: &mut Place<T>) -> u64
         requires own { seat.old.table_id ≡ self.now.id }
         requires idle { (seat.old.me.0.phase ≡ Idle) × (seat.old.me.1 ≡ []) }
@@ -160,7 +160,7 @@ impl<T: Historied> HistoryLock<T> {
         self.table.shared.fetch_add::<Draw>(seat, 0, 1)
     }
 
-    /// Looks whether a ticket is served, until it is or `LOOKS` looks came to nothing.
+    /// Looks whether `ticket` is served, until it is or `LOOKS` looks came to nothing.
     fn look(&self, ticket: u64) {
         for _look in 0..LOOKS {
             if self.table.shared.peek(1) == ticket {
@@ -170,7 +170,7 @@ impl<T: Historied> HistoryLock<T> {
         }
     }
 
-    /// Waits until a ticket is served, and takes the value.
+    /// Waits until `ticket` is served, and takes the value.
     fn wait(&self, rt: &impl Wait, seat: &mut Place<T>, ticket: u64)
         requires own { seat.old.table_id ≡ self.now.id }
         requires waiting { (seat.old.me.0.phase ≡ Waiting) × (seat.old.me.0.ticket % 2 ^ 64 ≡ ticket) × (seat.old.me.1 ≡ []) }
@@ -188,7 +188,7 @@ impl<T: Historied> HistoryLock<T> {
         unreachable!()
     }
 
-    /// Does a call on the value in hand.
+    /// Does `call` on the value in hand.
     fn act<C: LockCall<T>>(&self, seat: &mut Place<T>, call: &mut C) -> C::Out
         requires own { seat.old.table_id ≡ self.now.id }
         requires hand { (x : T) × (seat.old.me.1 ≡ (0, x) ∷ []) }
@@ -225,17 +225,17 @@ impl<T: Historied> HistoryLock<T> {
         ensures heeded { seat.new.me ≡ (record seat.old.me.0 { phase = Idle; drawn = seat.new.me.0.drawn }, seat.old.me.1) }
         ensures woken { seat.new.me.0.drawn ≢ (seat.old.me.0.ticket + 1) % 2 ^ 64 → B.rung bell.now ((seat.old.me.0.ticket + 1) % 2 ^ 64) }
     {
-        // `serving` was stored before this load of `ticket`, and all these steps have one order (SeqCst): who draws a ticket after the load
-        // reads the new `serving` before it parks. Who drew one before it is seen here, since `ticket` then is not what is served now.
+        // `serving` was stored before this load of `ticket`, and all these steps have one order (SeqCst): a thread that draws a ticket after the load
+        // reads the new `serving` before it parks. A thread that drew one before it is seen here, since `ticket` then is not what is served now.
         let drawn = self.table.shared.load::<Heed>(seat, 0);
         if drawn != served {
             bell.ring(served, drawn);
         }
     }
 
-    /// Does a call on the value once all seats that asked before have had theirs. The history that it finds begins with the seat's front,
-    /// and has all that the seat ever added; the history that it leaves is the seat's new front. The call acts for this seat, and may be done
-    /// at the lock's opening and each history that begins with the seat's front.
+    /// Does `call` on the value for `seat`, once all seats that asked before have had theirs. The history that it finds begins with the seat's front,
+    /// and has all that the seat ever added; the history that it leaves is the seat's new front. The call acts for this seat, and may be done at the
+    /// lock's opening and each history that begins with the seat's front.
     ///
     /// It may wait; what it promises holds if it returns. It takes no memory.
     pub fn with<C: LockCall<T>>(&self, rt: &impl Wait, seat: &mut Seat<T>, call: &mut C) -> C::Out
@@ -271,7 +271,7 @@ impl<T: Historied> HistoryLock<T> {
         }
     }
 
-    /// Has seat 0 take in another seat.
+    /// Has seat 0, `first`, take in the seat `other`.
     fn take_in(&self, first: &mut Seat<T>, other: Seat<T>)
         requires own { (first.old.lock ≡ self.now.id) × (other.lock ≡ self.now.id) }
         requires first { first.old.number ≡ 0 }
@@ -317,8 +317,8 @@ impl<T: Historied> HistoryLock<T> {
         value
     }
 
-    /// Gives the value back, from all seats of this lock in order. Each seat's front begins its history, and has all entries of the seat;
-    /// there is no entry of any other number. It takes no memory and waits for nobody.
+    /// Gives the value back, from `seats`, all of this lock in order. Each seat's front begins its history, and has all entries of the seat; there is
+    /// no entry of any other number. It takes no memory and doesn't wait.
     pub fn close(self, seats: Vec<Seat<T>>) -> T
         requires seats { AreSeats self seats.items }
         ensures opening { T.opening result ≡ T.opening self.opened }
@@ -331,7 +331,7 @@ impl<T: Historied> HistoryLock<T> {
 }
 
 impl<T: Historied> Seat<T> {
-    /// The number that its entries have, from 0.
+    /// The number that the entries of the seat have, from 0.
     pub fn number(&self) -> u32
         ensures { result ≡ self.now.number }
     {

@@ -23,7 +23,7 @@ impl<T: Historied> Play<T, View<T>> for Draw {
     ghost then = { Draws T.opening T.history T.uses };
 }
 
-/// A step that looks whom the second word, `serving`, calls. Whoever is called takes the value.
+/// A step that looks which seat the second word, `serving`, calls. The seat that is called takes the value.
 pub struct Look;
 
 impl<T: Historied> Play<T, View<T>> for Look {

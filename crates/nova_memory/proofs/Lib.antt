@@ -4,5 +4,4 @@ pub mod Laid
 pub mod Views
 pub mod Seen
 pub mod Recents
-pub mod Parted
 pub mod Remembered

@@ -1,4 +1,4 @@
--- Pages lead to frames: those of a derivation that is found, and those of one that joins. What was found is found again.
+-- Pages lead to frames: those of a derivation that is found, and those of a derivation that joins. What was found is found again.
 use Rattle.std.proofs.Common.{◌≡◌, ℕ, ◌+◌, ◌-◌, ◌<◌, ◌≤◌, List, [], ◌∷◌, ◌++◌, refl, ap, ap₂, sym, ◌∙◌, subst, arith}
 use Rattle.std.specs.Prelude.{Bool, true, false, ◌==◌, not, if◌then◌else◌, Option, Some, None, IfSome, IsSome}
 use Rattle.std.specs.List.{AllByRecursion, find}

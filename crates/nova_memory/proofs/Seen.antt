@@ -1,4 +1,4 @@
--- Who sees a frame, from derivation to derivation, and what is remembered of frames.
+-- The domains that see a frame, from derivation to derivation, and what is remembered of frames.
 use Rattle.std.proofs.Common.{◌≡◌, ◌∙◌, refl, sym, ap, ℕ, zero, suc, ◌+◌, ◌<◌, ◌≤◌, Bool, true, false, List, [], ◌∷◌, arith}
 use Rattle.std.specs.Prelude.{◌==◌, ◌^◌, nat_le, nat_lt, ◌&&◌, ◌||◌, map, replicate, slice_get, slice_set, Option, Some, None, IfSome, if◌then◌else◌}
 use Rattle.std.specs.Bool.{OnTrue}
@@ -59,7 +59,7 @@ seen_set list s n v seen is = go n s (λ f. AreViewers list f) seen is
 pub known_of : (list : List Derivation) (s : List (Option Viewers)) (frame : ℕ) (o : Option Viewers) → o ≡ entry (slice_get s frame) → AreSeen list s → IfSome o (AreViewers list frame)
 known_of list s frame o is seen = rw is (seen frame)
 
--- WHO SEES IT
+-- WHICH DOMAINS SEE IT
 
 parted : (m e i : Bool) → ((m && e) && i) ≡ ((m && i) && e)
 parted true true true = refl
@@ -94,7 +94,7 @@ pub is_joined : (P : Type 0) (t : Bool) → OnTrue t P → t ≡ true → P
 is_joined P true h is = h
 is_joined P false h is = absurd cc
 
--- those so far, and those of the derivations that are left
+-- the domains so far, and those of the derivations that are left
 abbrev pub IsLeft : List Derivation → List Derivation → ℕ → Viewers → Type 0
 IsLeft list left frame v = (pd : ℕ) → (sees v pd || list_any (leads_to pd frame) left) ≡ list_any (leads_to pd frame) list
 

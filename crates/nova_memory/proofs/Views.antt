@@ -24,7 +24,7 @@ use Rattle.nova_nodes.proofs.Sorted.{filter_all, filter_none}
 
 -- LISTS
 
--- a test after one that it passes by itself
+-- a test after another that it implies
 filter_twice : {T : Type 0} (p q : T → Bool) (xs : List T) → ((x : T) → q x ≡ true → p x ≡ true) → filter q (filter p xs) ≡ filter q xs
 filter_twice p q [] h = refl
 filter_twice p q (x ∷ xs) h = by_test (p x) refl (filter_twice p q xs h)
@@ -377,7 +377,7 @@ cells_at : (maps : List Map) (ram : List (List ℕ)) (n : ℕ) (bytes : List ℕ
 cells_at maps ram n bytes is =
     ap (cells_from maps n) (drop_more ram n [] (slice_get_within ram n bytes is) ∙ ap (λ (b : List ℕ). b ∷ drop (n + 1) ram) (get_or_from_slice_get ram n bytes [] is))
 
--- what is there so far, and what comes of the frames that are left: one frame further, with a cell or without
+-- what is there already, and what comes of the frames that are left: one frame further, with a cell or without
 module _ (maps : List Map) (ram : List (List ℕ)) (n : ℕ) (before all : List Cell) (left : before ++ cells_from maps n (drop n ram) ≡ all) where
   pub one_cell : (bytes : List ℕ) → slice_get ram n ≡ Some bytes → is_covered maps n ≡ true →
       (before ++ record { frame = n; contents = bytes } ∷ []) ++ cells_from maps (n + 1) (drop (n + 1) ram) ≡ all

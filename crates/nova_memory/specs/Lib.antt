@@ -1,7 +1,7 @@
 pub use Rattle.nova_model.specs.Memory
 pub use Rattle.nova_model.specs.Delegations
 pub use Rattle.nova_model.specs.AddressSpaces
-pub mod Messages
+pub use Rattle.nova_messages.specs.Messages
 pub mod Previews
 pub mod Reach
 pub mod Sights

@@ -12,7 +12,7 @@ use Rattle.nova_model.specs.AddressSpaces.{AddressSpace, frame_for, space, space
 use Rattle.nova_model.specs.State.{entry, message_in}
 use Rattle.nova_model.specs.declared.delegation.Derivation.{Derivation}
 use Rattle.nova_nodes.specs.NodesStates.{IsPlaced, NodesState}
-use Rattle.nova_memory.specs.Messages.{MessageTable}
+use Rattle.nova_messages.specs.Messages.{MessageTable}
 
 -- the derivations, the memory, the message words of all, the execution context that acts, its protection domain, whether it is a thread, the frame that the
 -- last store went to, how many consoles there are, and how many more bytes the log takes
@@ -44,7 +44,7 @@ loaded s = (space (reached s)).load
 abbrev pub takes : ReachState → ℕ → ℕ → Bool
 takes s = (space (reached s)).takes
 
--- pages lead to some of so many frames
+-- pages lead to some of `frames` frames
 abbrev pub LeadsToFrames : ℕ → Derivation → Type 0
 LeadsToFrames frames d = is_memory d.kind ≡ true → d.target + 2 ^ d.order ≤ frames
 

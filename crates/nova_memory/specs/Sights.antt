@@ -1,4 +1,4 @@
--- Who sees a frame: the protection domains whose memory leads to it, as far as that is remembered.
+-- The viewers of a frame: the protection domains whose memory leads to it, as far as that is remembered.
 use Rattle.std.specs.Prelude.{ℕ, ◌≡◌, ◌==◌, ◌+◌, ◌^◌, ◌&&◌, nat_le, nat_lt, Bool, List, Option, None, IfSome, slice_get, take, if◌then◌else◌}
 use Rattle.std.specs.List.{list_any}
 use Rattle.nova_model.specs.Delegations.{is_memory}

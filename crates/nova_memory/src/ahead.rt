@@ -15,7 +15,7 @@ use nova_revoke::Running;
 
 // What is only looked at.
 impl Reach {
-    /// What a page of a protection domain leads to, or nothing.
+    /// What `page` of the protection domain `pd` leads to, or nothing.
     pub fn page(&self, pd: u32, page: u32) -> Option<Page>
         ensures page { result ≡ reach self.now.nodes.delegations.list pd page }
         ensures there { IfSome result (λ p. p.frame < length self.now.memory.ram + self.now.consoles) }
@@ -24,8 +24,8 @@ impl Reach {
         Some(page_in(&derivation, page))
     }
 
-    /// The number in the 1, 2 or 4 bytes of a frame from an offset on, the lowest byte first. A console
-    /// gives 0. The frame exists, and the offset is a multiple of the width.
+    /// The number in the 1, 2 or 4 bytes of `frame` from `offset` on, the lowest byte first. A console gives 0.
+    /// The frame exists, and the offset is a multiple of the width.
     pub(crate) fn load_frame(&self, frame: u32, offset: u32, width: u32) -> u32
         requires there { frame < length self.now.memory.ram + self.now.consoles }
         requires width { IsWidth width }
@@ -37,8 +37,8 @@ impl Reach {
         self.frames.load(frame, offset, width)
     }
 
-    /// The next part of an item, while these revokes run: the derivation of the giver that it is of, and
-    /// the child that is to be made of it, or the first reason to skip it; nothing where none is left.
+    /// The next part of `job` while `revokes` run: the giver's derivation that it is of, with the child to be
+    /// made of it or the first reason to skip it. The answer is nothing where none is left.
     pub fn next_part(
         &self,
         job: &Job,

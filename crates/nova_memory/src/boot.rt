@@ -5,13 +5,13 @@ ghost use Rattle.nova_model.specs.State.{no_words};
 ghost use Rattle.nova_nodes.specs.NodesStates.{room};
 ghost use Rattle.nova_memory.specs.Reach.{page_range, selector_range};
 
-use crate::messages::Messages;
 use crate::reach::Reach;
 use crate::recalled::Recalled;
 use crate::recent::Recents;
 use crate::sights::Sights;
 use bitflags::Flags;
 use nova_frames::Frames;
+use nova_messages::Messages;
 use nova_model::{Kind, Rights};
 use nova_nodes::Nodes;
 use nova_range::{Range, Target};
@@ -31,7 +31,7 @@ fn root_messages(alloc: Global) -> Result<Messages, AllocError>
     Ok(messages)
 }
 
-/// Adds all RAM, to be read, written and executed, and each console's page, to be read and written.
+/// Adds RAM of `2^order` frames, to be read, written and executed, and the page of each of `consoles` consoles, to be read and written.
 fn add_memory(nodes: &mut Nodes<Space>, order: u8, consoles: u32)
     requires order { order ≤ 14 }
     requires consoles { consoles ≤ 16 }
@@ -51,7 +51,7 @@ fn add_memory(nodes: &mut Nodes<Space>, order: u8, consoles: u32)
     }
 }
 
-/// The page of a console, after RAM and the consoles before it.
+/// The page of the console `console`, after RAM and the consoles before it.
 fn console_page(order: u8, console: u32) -> u32
     requires order { order ≤ 14 }
     requires console { console < 16 }
@@ -61,7 +61,7 @@ fn console_page(order: u8, console: u32) -> u32
     (1 << order) + console
 }
 
-/// The range of a page.
+/// The range of `page`.
 fn page_range(page: u32) -> Range
     ensures { result ≡ page_range page }
 {
@@ -72,7 +72,7 @@ fn page_range(page: u32) -> Range
     }
 }
 
-/// Adds a console's page, after RAM and the consoles before it.
+/// Adds the page of the console `console`, after RAM and the consoles before it.
 fn add_console(nodes: &mut Nodes<Space>, order: u8, console: u32)
     requires order { order ≤ 14 }
     requires console { console < 16 }
@@ -85,7 +85,7 @@ fn add_console(nodes: &mut Nodes<Space>, order: u8, console: u32)
     nodes.root(0, page_range(page), Rights::from_bits_retain(3), page);
 }
 
-/// The range of a selector.
+/// The range of `selector`.
 fn selector_range(selector: u32) -> Range
     ensures { result ≡ selector_range selector }
 {

@@ -9,7 +9,7 @@ use nova_utcb::Utcb;
 use std::alloc::AllocError;
 
 impl Reach {
-    /// Lays bytes into RAM one after another from an address on. They lie in RAM.
+    /// Lays `bytes` into RAM one after another from `address` on. They lie in RAM.
     pub fn put(&mut self, address: u32, bytes: &[u8])
         requires { address + length bytes.now ≤ 4096 * length self.old.memory.ram }
         ensures { self.new ≡ record self.old { memory = laid self.old.memory address bytes.now } }
@@ -18,7 +18,7 @@ impl Reach {
         self.frames.put(address, bytes);
     }
 
-    /// The 4,096 bytes of a RAM frame.
+    /// The 4,096 bytes of the RAM frame `frame`.
     pub fn frame(&self, frame: u32) -> &[u8]
         requires { frame < length self.now.memory.ram }
         ensures bytes { slice_get self.now.memory.ram frame ≡ Some result.now }
@@ -27,7 +27,7 @@ impl Reach {
         self.frames.frame(frame)
     }
 
-    /// Replaces the 4,096 bytes of a RAM frame.
+    /// Replaces the 4,096 bytes of the RAM frame `frame` by `bytes`.
     pub fn write_frame(&mut self, frame: u32, bytes: &[u8])
         requires there { frame < length self.old.memory.ram }
         requires size { length bytes.now ≡ 4096 }
@@ -67,7 +67,7 @@ impl Reach {
         self.messages.reserve(1)
     }
 
-    /// Adds the message words of the next object in the room that was made: those of a thread, or nothing.
+    /// Adds `words`, the message words of the next object, in the room that was made: those of a thread, or nothing.
     pub fn add_message(&mut self, words: Option<Utcb>)
         requires { 0 < self.old.messages.spare }
         ensures { self.new ≡ record self.old { messages = record { items = self.old.messages.items ++ words ∷ []; spare = self.old.messages.spare - 1 } } }
@@ -75,14 +75,14 @@ impl Reach {
         self.messages.add(words);
     }
 
-    /// The message words of an execution context; they are all 0 where it has none.
+    /// The message words of the execution context `ec`; they are all 0 where it has none.
     pub fn message(&self, ec: u32) -> Utcb
         ensures { result ≡ message_in (entry (slice_get self.now.messages.items ec)) }
     {
         self.messages.get(ec)
     }
 
-    /// An execution context finds other message words.
+    /// Sets the message words of the execution context `ec` to `words`.
     pub fn set_message(&mut self, ec: u32, words: &Utcb)
         requires { ec < length self.old.messages.items }
         ensures { self.new ≡ record self.old { messages = record self.old.messages { items = slice_set self.old.messages.items ec (Some words.now) } } }
@@ -90,8 +90,9 @@ impl Reach {
         self.messages.set(ec, words);
     }
 
-    /// Copies the message of an execution context to another one: word 0, and the untyped words that it counts. All
-    /// other words stay. The counts aren't `BadCounts`.
+    /// Copies the message of the execution context `from` to that of `to`: word 0, and the untyped words that it counts. All other words stay. The
+    /// counts aren't `BadCounts`.
+    #[inline(always)]
     pub fn pass_message(&mut self, from: u32, to: u32)
         requires counts { has_counts (message_in (entry (slice_get self.old.messages.items from))) ≡ true }
         requires there { to < length self.old.messages.items }

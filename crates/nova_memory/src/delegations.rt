@@ -13,7 +13,7 @@ use nova_model::{Derivation, Kind, Rights};
 use nova_range::Range;
 use std::alloc::AllocError;
 
-/// Whether a derivation lies in a space of a protection domain and covers a place.
+/// Whether `derivation` lies in a space of the protection domain `pd` and covers `place`.
 #[inline(always)]
 pub(crate) fn covers(derivation: &Derivation, kind: Kind, pd: u32, place: u32) -> bool
     requires { derivation.now.order ≤ 20 }
@@ -28,7 +28,7 @@ pub(crate) fn covers(derivation: &Derivation, kind: Kind, pd: u32, place: u32) -
 }
 
 impl Reach {
-    /// Makes room for one more derivation of a protection domain. Where there is room, this succeeds.
+    /// Makes room for one more derivation of the protection domain `pd`. Where there is room, this succeeds.
     pub fn reserve(&mut self, pd: u32) -> Result<(), AllocError>
         ensures room { OnOk result (0 < room self.new.nodes pd) }
         ensures enough { 0 < room self.old.nodes pd → IsOk result }
@@ -41,7 +41,7 @@ impl Reach {
         self.nodes.reserve(pd, 1)
     }
 
-    /// Makes the space of a new protection domain.
+    /// Makes the spaces of the new protection domain `pd`.
     pub fn add_domain(&mut self, pd: u32) -> Result<(), AllocError>
         ensures room { (other : ℕ) → room self.old.nodes other ≤ room self.new.nodes other }
         ensures delegations { self.new.nodes.delegations ≡ self.old.nodes.delegations }
@@ -53,7 +53,7 @@ impl Reach {
         self.nodes.add_pd(pd)
     }
 
-    /// Adds the capability of an object, at a selector that is free, in the room that was made.
+    /// Adds a capability of `object` to the domain `pd`, at `selector`, which is free, in the room that was made.
     pub fn add_capability(&mut self, pd: u32, selector: u32, rights: Rights, object: u32)
         requires room { 0 < room self.old.nodes pd }
         requires next { self.old.nodes.delegations.next < 2 ^ 32 - 1 }
@@ -76,7 +76,7 @@ impl Reach {
         self.nodes.root(pd, place, rights, object);
     }
 
-    /// The capability at hand, where it is the one at a selector of a protection domain.
+    /// The capability at hand, where it is that at `selector` of the domain `pd`.
     #[inline(always)]
     fn at_hand(&self, pd: u32, selector: u32) -> Option<Derivation>
         ensures found { IfSome result (λ d. find (covers Kind.Obj pd selector) self.now.nodes.delegations.list ≡ Some d) }
@@ -90,8 +90,8 @@ impl Reach {
         }
     }
 
-    /// Takes the capability at a selector of a protection domain to hand. Where the same one is named again and again, this is
-    /// seldom done, and stays out of the code of each call.
+    /// Takes the capability at `selector` of the domain `pd` to hand. Where the same is named again and again, this is seldom done, and stays out of
+    /// the code of each call.
     #[inline(never)]
     fn take_to_hand(&mut self, pd: u32, selector: u32)
         ensures { self.new ≡ self.old }
@@ -99,8 +99,8 @@ impl Reach {
         self.recents.capability = self.nodes.covering(pd, Kind::Obj, selector);
     }
 
-    /// Keeps the capability at a selector of a protection domain at hand, if there is one: until delegations change or another one
-    /// is kept, it is found there without a search.
+    /// Keeps the capability at `selector` of the domain `pd` at hand, if there is one: until delegations change or another is kept, it is found there
+    /// without a search.
     #[inline(always)]
     pub fn keep_at_hand(&mut self, pd: u32, selector: u32)
         ensures { self.new ≡ self.old }
@@ -110,7 +110,7 @@ impl Reach {
         }
     }
 
-    /// The search for the derivation that covers a place of a protection domain.
+    /// The search for the derivation that covers `place` of the protection domain `pd`.
     #[inline(never)]
     fn search(&self, pd: u32, kind: Kind, place: u32) -> Option<Derivation>
         ensures found { result ≡ find (covers kind pd place) self.now.nodes.delegations.list }
@@ -119,7 +119,7 @@ impl Reach {
         self.nodes.covering(pd, kind, place)
     }
 
-    /// The derivation that covers a place of a protection domain, or nothing.
+    /// The derivation that covers `place` of the space `kind` of the domain `pd`, or nothing.
     #[inline(always)]
     pub fn covering(&self, pd: u32, kind: Kind, place: u32) -> Option<Derivation>
         ensures found { result ≡ find (covers kind pd place) self.now.nodes.delegations.list }
@@ -133,21 +133,21 @@ impl Reach {
         self.search(pd, kind, place)
     }
 
-    /// The derivation of an id, or nothing.
+    /// The derivation `id`, or nothing.
     pub fn get(&self, id: u32) -> Option<Derivation>
         ensures { result ≡ with_id self.now.nodes.delegations.list id }
     {
         self.nodes.get(id)
     }
 
-    /// The derivation of least id at or after a given one, or nothing.
+    /// The derivation of least id at or after `id`, or nothing.
     pub fn from_id(&self, id: u32) -> Option<Derivation>
         ensures { result ≡ from_id self.now.nodes.delegations.list id }
     {
         self.nodes.from_id(id)
     }
 
-    /// Adds a child, in room that was made for it.
+    /// Adds the derivation `child`, in room that was made for it.
     pub fn add_child(&mut self, child: &Derivation)
         requires room { 0 < room self.old.nodes child.now.pd }
         requires next { self.old.nodes.delegations.next < 2 ^ 32 - 1 }
@@ -165,7 +165,7 @@ impl Reach {
         self.nodes.child(parent, child.pd, child.range(), child.rights, child.target);
     }
 
-    /// The word that answers a range word of a giver's: the same memory or object as the receiver has it.
+    /// The word that answers the range word `word` of the domain `giver`: the same memory or object as the domain `receiver` has it.
     pub fn translate(&self, word: u32, window: u32, giver: u32, receiver: u32) -> u32
         ensures { result ≡ translated self.now.nodes.delegations.list word window giver receiver }
     {

@@ -9,7 +9,7 @@ use nova_guest::{Bytes, Cell, Map};
 use nova_model::{Derivation, Kind};
 use std::alloc::{AllocError, Global};
 
-/// Whether a map leads to a frame.
+/// Whether `map` leads to `frame`.
 fn leads_to(map: &Map, frame: u32) -> bool
     requires { map.now.order ≤ 20 }
     ensures { result ≡ leads_to frame map.now }
@@ -17,7 +17,7 @@ fn leads_to(map: &Map, frame: u32) -> bool
     map.frame <= frame && frame - map.frame < 1 << map.order
 }
 
-/// Whether some map leads to a frame.
+/// Whether some map leads to `frame`.
 fn is_covered(maps: &[Map], frame: u32) -> bool
     requires { All (λ m. m.order ≤ 20) maps.now }
     ensures { result ≡ is_covered maps.now frame }
@@ -25,7 +25,7 @@ fn is_covered(maps: &[Map], frame: u32) -> bool
     maps.iter().any(|map| leads_to(map, frame))
 }
 
-/// A memory derivation as a map, without its id and its parent.
+/// `derivation`, of memory, as a map, without its id and its parent.
 fn map_of(derivation: &Derivation) -> Map
     ensures { result ≡ map_of derivation.now }
 {
@@ -37,7 +37,7 @@ fn map_of(derivation: &Derivation) -> Map
     }
 }
 
-/// The first place after a derivation.
+/// The first place after `derivation`.
 fn end_of(derivation: &Derivation) -> u32
     requires { IsPlaced derivation.now }
     ensures { result ≡ derivation.now.base + 2 ^ derivation.now.order }
@@ -46,7 +46,7 @@ fn end_of(derivation: &Derivation) -> u32
 }
 
 impl Reach {
-    /// The memory derivations of a protection domain as maps, by base.
+    /// The memory derivations of the protection domain `pd` as maps, by base.
     pub fn maps(&self, alloc: Global, pd: u32) -> Result<Vec<Map>, AllocError>
         ensures maps { IfOk result (λ maps. maps.items ≡ maps_of pd self.now.nodes.delegations.list) }
         ensures orders { IfOk result (λ maps. All (λ m. m.order ≤ 20) maps.items) }
@@ -60,7 +60,7 @@ impl Reach {
         Ok(maps)
     }
 
-    /// The RAM frames that maps lead to, each once, by frame, with their bytes.
+    /// The RAM frames that `maps` lead to, each once, by frame, with their bytes.
     pub fn cells(&self, alloc: Global, maps: &[Map]) -> Result<Vec<Cell>, AllocError>
         requires { All (λ m. m.order ≤ 20) maps.now }
         ensures { IfOk result (λ cells. cells.items ≡ cells_of maps.now self.now.memory.ram) }

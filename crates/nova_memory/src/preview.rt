@@ -10,7 +10,7 @@ use nova_model::{Page, Rights};
 use rv_core::bus::Bus;
 use std::marker::Model;
 
-/// A store of the lowest `width` bytes of a value to a frame.
+/// A store of the lowest `width` bytes of `value` to `frame`, from `offset` on.
 #[derive(Clone, Copy)]
 pub struct Write {
     pub frame: u32,
@@ -38,7 +38,7 @@ impl<'a> Model for Preview<'a> {
 }
 
 impl<'a> Preview<'a> {
-    /// What an execution context of a protection domain reaches.
+    /// What the execution context `ec` of the protection domain `pd` reaches, over `reach`.
     pub fn new(reach: &'a Reach, ec: u32, pd: u32, is_thread: bool) -> Preview<'a>
         ensures { result ≡ record { reach = entered reach.now ec pd is_thread; write = None } }
     {
@@ -58,7 +58,7 @@ impl<'a> Preview<'a> {
         self.write
     }
 
-    /// What a page leads to: the one derivation that covers it, or nothing.
+    /// What `page` leads to, through the derivation that covers it; nothing where none does.
     fn page_at(&self, page: u32) -> Option<Page>
         ensures page { result ≡ (reached self.now.reach).page page }
         ensures there { IfSome result (λ p. p.frame < length self.now.reach.memory.ram + self.now.reach.consoles) }
@@ -69,7 +69,7 @@ impl<'a> Preview<'a> {
         self.reach.page(self.pd, page)
     }
 
-    /// The frame that an address leads to, where the right is there.
+    /// The frame that `address` leads to, where the right is there.
     fn frame_for(&self, right: Rights, address: u32) -> Option<u32>
         ensures frame { result ≡ frame_for (reached self.now.reach) right.0 address }
         ensures there { IfSome result (λ frame. frame < length self.now.reach.memory.ram + self.now.reach.consoles) }
@@ -78,7 +78,7 @@ impl<'a> Preview<'a> {
         frame_with(page, right)
     }
 
-    /// A store that finds no frame: to message words, or refused.
+    /// A store to `address` that finds no frame: to message words, or refused.
     fn store_own(&mut self, address: u32) -> bool
         requires { frame_for (reached self.old.reach) write_right address ≡ None }
         ensures gives { result ≡ is_some (words_at (reached self.old.reach) address) }

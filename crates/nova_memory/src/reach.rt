@@ -10,12 +10,12 @@ ghost use Rattle.nova_memory.specs.Previews.{entered};
 ghost use Rattle.nova_memory.specs.Reach.{ReachState, loaded, reached, stored, takes};
 
 use crate::delegations::covers;
-use crate::messages::Messages;
 use crate::recalled::Recalled;
 use crate::recent::{Recent, Recents, frame_of};
 use crate::sights::Sights;
 use bitflags::Flags;
 use nova_frames::Frames;
+use nova_messages::Messages;
 use nova_model::{Derivation, Kind, Page, Rights};
 use nova_nodes::Nodes;
 use nova_space::Space;
@@ -29,10 +29,9 @@ pub(crate) const OWN_PAGE: u32 = 0xfffff;
 /// How many bytes the message words of a thread have.
 const MESSAGE_SIZE: u32 = 512;
 
-/// What an instruction reaches: the frames, through the derivations of the protection domain of the
-/// execution context that acts, and the message words of one that is a thread. The domain's last page to fetch from, and some of those to load from
-/// and to store to, are looked at first, then the derivation of the page that was looked up last, and who sees a frame that was stored to is
-/// remembered.
+/// What an instruction reaches: the frames, through the derivations of the protection domain of the execution context that acts, and the message
+/// words of a thread. The domain's last page to fetch from, and some of those to load from and to store to, are looked at first, then the derivation
+/// of the page that was looked up last, and the domains that see a frame that was stored to are remembered.
 #[derive(Drop)]
 pub struct Reach {
     pub(crate) frames: Frames,
@@ -77,7 +76,7 @@ impl Model for Reach {
     ghost invariant = { λ r. LeadToFrames (length r.frames.memory.ram + r.frames.consoles) r.nodes.delegations.list × (IfSome r.last (IsFound Mem r.nodes.delegations.list) × (AreSeen r.nodes.delegations.list r.sights × (AreRecent r.nodes.delegations.list r.recents × (AreRecent r.nodes.delegations.list r.others × AreRecalled r.nodes.delegations.list r.frames.memory r.recalled)))) };
 }
 
-/// What a page leads to through a derivation that covers it.
+/// What `page` leads to through `derivation`, which covers it.
 pub(crate) fn page_in(derivation: &Derivation, page: u32) -> Page
     requires place { derivation.now.base ≤ page }
     requires frame { derivation.now.target + (page - derivation.now.base) < 2 ^ 32 }
@@ -89,7 +88,7 @@ pub(crate) fn page_in(derivation: &Derivation, page: u32) -> Page
     }
 }
 
-/// The frame that a page leads to, where the right is there.
+/// The frame that `page` leads to, where the right is there.
 #[inline(always)]
 pub(crate) fn frame_with(page: Page, right: Rights) -> Option<u32>
     ensures frame { result ≡ frame_with right.0 page }
@@ -102,7 +101,7 @@ pub(crate) fn frame_with(page: Page, right: Rights) -> Option<u32>
     }
 }
 
-/// Whether an address is among the message words of an execution context, which has some where it is a thread.
+/// Whether `address` is among the message words of an execution context, which has some where it is a thread.
 #[inline(always)]
 pub(crate) fn is_own(is_thread: bool, address: u32) -> bool
     ensures { (s : ReachState) → s.is_thread ≡ is_thread → result ≡ is_some (words_at (reached s) address) }
@@ -111,8 +110,7 @@ pub(crate) fn is_own(is_thread: bool, address: u32) -> bool
 }
 
 impl Reach {
-    /// The execution context that acts changes, with its protection domain, and whether it is a thread. Nothing
-    /// is stored yet.
+    /// Makes `ec`, of the protection domain `pd`, and a thread where `is_thread`, the execution context that acts. Nothing is stored yet.
     pub fn enter(&mut self, ec: u32, pd: u32, is_thread: bool)
         ensures { self.new ≡ record self.old { ec = ec; pd = pd; is_thread = is_thread; written = None } }
     {
@@ -124,7 +122,7 @@ impl Reach {
         }
     }
 
-    /// A store was seen to: nothing is stored.
+    /// Forgets the store that was seen to: nothing is stored.
     #[inline(always)]
     pub fn forget_store(&mut self)
         ensures { self.new ≡ record self.old { written = None } }
@@ -139,7 +137,7 @@ impl Reach {
         self.written.is_some()
     }
 
-    /// The same in memory of its own. The copy's log has no room for more bytes.
+    /// Copies frames, delegations and message words into memory of their own. The copy's log has no room for more bytes.
     pub fn copy(&self) -> Result<Reach, AllocError>
         ensures delegations { IfOk result (λ r. r.nodes.delegations ≡ self.now.nodes.delegations) }
         ensures memory { IfOk result (λ r. r.memory ≡ self.now.memory) }
@@ -173,7 +171,7 @@ impl Reach {
         self.written
     }
 
-    /// What a page leads to through the derivation of the last page, where that covers this one too.
+    /// What `page` leads to through the derivation of the last page, where that covers `page` too.
     fn last_page(&self, page: u32) -> Option<Page>
         ensures page { IfSome result (λ p. reach self.now.nodes.delegations.list self.now.pd page ≡ Some p) }
         ensures there { IfSome result (λ p. p.frame < length self.now.memory.ram + self.now.consoles) }
@@ -186,8 +184,8 @@ impl Reach {
         }
     }
 
-    /// The derivation that covers a page of the protection domain, or nothing. Few accesses need the search, so that it stays
-    /// out of the code of each.
+    /// The derivation that covers `page` of the protection domain, or nothing. Few accesses need the search, so that it stays out of the code of
+    /// each.
     #[inline(never)]
     fn memory_at(&mut self, page: u32) -> Option<Derivation>
         ensures found { result ≡ find (covers Kind.Mem self.old.pd page) self.old.nodes.delegations.list }
@@ -199,7 +197,7 @@ impl Reach {
         self.last
     }
 
-    /// What a page leads to: the one derivation that covers it, or nothing.
+    /// What `page` leads to, through the derivation that covers it; nothing where none does.
     #[inline(always)]
     fn page_at(&mut self, page: u32) -> Option<Page>
         ensures page { result ≡ (reached self.old).page page }
@@ -216,7 +214,7 @@ impl Reach {
         Some(page_in(&derivation, page))
     }
 
-    /// What a page of a protection domain leads to, or nothing.
+    /// What `page` of the protection domain `pd` leads to, or nothing.
     pub fn page_of(&mut self, pd: u32, page: u32) -> Option<Page>
         ensures page { result ≡ reach self.old.nodes.delegations.list pd page }
         ensures kept { self.new ≡ record self.old { ec = 0; pd = pd; is_thread = false; written = None } }
@@ -225,7 +223,7 @@ impl Reach {
         self.page_at(page)
     }
 
-    /// The frame that an address leads to, where the right is there.
+    /// The frame that `address` leads to, where the right is there.
     #[inline(always)]
     fn frame_for(&mut self, right: Rights, address: u32) -> Option<u32>
         ensures frame { result ≡ frame_for (reached self.old) right.0 address }
@@ -236,7 +234,7 @@ impl Reach {
         frame_with(page, right)
     }
 
-    /// The frame of a page to fetch from that isn't the last such page, which it becomes. Few accesses leave their page.
+    /// The frame to fetch `address` from, where its page isn't the last such page, which it becomes. Few accesses leave their page.
     #[inline(never)]
     fn fetch_elsewhere(&mut self, address: u32) -> Option<u32>
         ensures frame { result ≡ frame_for (reached self.old) execute_right address }
@@ -253,7 +251,7 @@ impl Reach {
         Some(frame)
     }
 
-    /// The frame to fetch from.
+    /// The frame to fetch `address` from.
     #[inline(always)]
     pub(crate) fn frame_to_fetch(&mut self, address: u32) -> Option<u32>
         ensures frame { result ≡ frame_for (reached self.old) execute_right address }
@@ -266,7 +264,7 @@ impl Reach {
         self.fetch_elsewhere(address)
     }
 
-    /// The frame of a page to load from that isn't the last such page, which it becomes. Few accesses leave their page.
+    /// The frame to load `address` from, where its page isn't the last such page, which it becomes. Few accesses leave their page.
     #[inline(never)]
     fn load_elsewhere(&mut self, address: u32) -> Option<u32>
         ensures frame { result ≡ frame_for (reached self.old) read_right address }
@@ -280,7 +278,7 @@ impl Reach {
         Some(frame)
     }
 
-    /// The frame to load from.
+    /// The frame to load `address` from.
     #[inline(always)]
     fn frame_to_load(&mut self, address: u32) -> Option<u32>
         ensures frame { result ≡ frame_for (reached self.old) read_right address }
@@ -293,7 +291,7 @@ impl Reach {
         self.load_elsewhere(address)
     }
 
-    /// The frame of a page to store to that isn't the last such page, which it becomes. Few accesses leave their page.
+    /// The frame to store to at `address`, where its page isn't the last such page, which it becomes. Few accesses leave their page.
     #[inline(never)]
     fn store_elsewhere(&mut self, address: u32) -> Option<u32>
         ensures frame { result ≡ frame_for (reached self.old) write_right address }
@@ -307,7 +305,7 @@ impl Reach {
         Some(frame)
     }
 
-    /// The frame to store to.
+    /// The frame to store to at `address`.
     #[inline(always)]
     fn frame_to_store(&mut self, address: u32) -> Option<u32>
         ensures frame { result ≡ frame_for (reached self.old) write_right address }
@@ -320,7 +318,7 @@ impl Reach {
         self.store_elsewhere(address)
     }
 
-    /// A load of an execution context that finds no frame: message words, or nothing.
+    /// A load of the execution context `ec` that finds no frame: message words, or nothing.
     #[inline(always)]
     pub(crate) fn load_own(&self, ec: u32, is_thread: bool, address: u32, width: u32) -> Option<u32>
         requires width { IsWidth width }
@@ -334,7 +332,7 @@ impl Reach {
         Some(self.messages.load(ec, address % 4096, width))
     }
 
-    /// A store that finds no frame: to message words, or refused.
+    /// A store to `address` that finds no frame: to message words, or refused.
     fn store_own(&mut self, address: u32, width: u32, value: u32) -> bool
         requires frame { frame_for (reached self.old) write_right address ≡ None }
         requires width { IsWidth width }

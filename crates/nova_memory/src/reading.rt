@@ -14,7 +14,7 @@ impl Reach {
         self.frames.reserve_log(bytes)
     }
 
-    /// The message words of a number, where it has some.
+    /// The message words of the execution context `ec`, where it has some.
     pub fn words(&self, ec: u32) -> Option<&Utcb>
         ensures { option_map (λ words. words.now) result ≡ entry (slice_get self.now.messages.items ec) }
     {

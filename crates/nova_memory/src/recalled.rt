@@ -12,7 +12,7 @@ const PLACES: usize = 1024;
 /// The scopes of one state of delegations and of memory: one for each protection domain.
 const SCOPES: u64 = 1 << 32;
 
-/// No state of delegations and of memory begins its scopes after this one.
+/// No state of delegations and of memory begins its scopes after this number.
 const LAST: u64 = 0xffff_fffe_0000_0000;
 
 /// What the word at an address reads as, and the frame in which it lies. The scope is that of the protection domain; 0 is that of none.
@@ -32,7 +32,7 @@ pub(crate) struct Recalled {
     slots: [Slot; PLACES],
 }
 
-/// The place of an address. Those of one word of a frame have the same one, whatever page leads to it.
+/// The place of `address` in the table. All addresses of one word of a frame have the same place, whatever page leads to it.
 #[inline(always)]
 fn place_of(address: u32) -> usize
     ensures place { result ≡ address / 4 % 1024 }
@@ -41,7 +41,7 @@ fn place_of(address: u32) -> usize
     (address / 4 % 1024) as usize
 }
 
-/// What stands at the place of an address.
+/// What stands at the place of `address`.
 #[inline(always)]
 fn slot_at(slots: &[Slot; PLACES], address: u32) -> &Slot
     ensures { slice_get slots.now (address / 4 % 1024) ≡ Some result.now }
@@ -49,7 +49,7 @@ fn slot_at(slots: &[Slot; PLACES], address: u32) -> &Slot
     &slots[place_of(address)]
 }
 
-/// Whether what stands in a slot was read at an address, in a scope.
+/// Whether what stands in `slot` was read at `address`, in `scope`.
 #[inline(always)]
 fn is_at(slot: &Slot, scope: u64, address: u32) -> bool
     ensures { result ≡ true → (slot.now.address ≡ address) × (slot.now.scope ≡ scope) }
@@ -57,7 +57,7 @@ fn is_at(slot: &Slot, scope: u64, address: u32) -> bool
     slot.address == address && slot.scope == scope
 }
 
-/// What a word reads as, which may be what was read before; nothing where it is no instruction.
+/// What `word` reads as, which may be what was read before; nothing where it is no instruction.
 fn reading_of(before: &Reading, word: u32) -> Option<Reading>
     ensures { IfSome result (λ r. r.word ≡ word) }
 {
@@ -86,7 +86,7 @@ impl Recalled {
         }
     }
 
-    /// The scope of a protection domain.
+    /// The scope of the protection domain `pd`.
     #[inline(always)]
     fn scope_of(&self, pd: u32) -> u64
         requires { self.now.base + 2 ^ 32 ≤ 2 ^ 64 }
@@ -95,7 +95,7 @@ impl Recalled {
         self.base + u64::from(pd)
     }
 
-    /// What the word at an address of a protection domain reads as, where it is remembered.
+    /// What the word at `address` of the protection domain `pd` reads as, where it is remembered.
     #[inline(always)]
     pub(crate) fn find(&self, pd: u32, address: u32) -> Option<Reading>
         requires { self.now.base + 2 ^ 32 ≤ 2 ^ 64 }
@@ -109,7 +109,7 @@ impl Recalled {
         }
     }
 
-    /// What the word at an address of a protection domain, which lies in a frame, reads as, from now on remembered; nothing where it is no
+    /// What the word at `address` of the protection domain `pd`, which lies in `frame`, reads as, from now on remembered; nothing where it is no
     /// instruction.
     pub(crate) fn learn(&mut self, pd: u32, address: u32, frame: u32, word: u32) -> Option<Reading>
         requires { self.old.base + 2 ^ 32 ≤ 2 ^ 64 }
@@ -128,7 +128,7 @@ impl Recalled {
         Some(reading)
     }
 
-    /// Nothing is remembered of the word at an address any more, where it lies in this frame.
+    /// Forgets what the word at `address` reads as, where it lies in `frame`.
     #[inline(always)]
     pub(crate) fn forget_at(&mut self, frame: u32, address: u32)
         ensures { AreLeft self.old self.new frame (address / 4 % 1024) }

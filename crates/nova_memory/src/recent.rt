@@ -40,7 +40,7 @@ const NOWHERE: Recent = Recent {
     frame: 0,
 };
 
-/// The place of the page of an address.
+/// The place of the page of `address`.
 #[inline(always)]
 fn place_of(address: u32) -> usize
     ensures place { result ≡ address / 4096 % 8 }
@@ -49,7 +49,7 @@ fn place_of(address: u32) -> usize
     (address / 4096 % 8) as usize
 }
 
-/// What stands at the place of the page of an address.
+/// What stands at the place of the page of `address`.
 #[inline(always)]
 fn recent_at(places: &[Recent; PLACES], address: u32) -> &Recent
     ensures { slice_get places.now (address / 4096 % 8) ≡ Some result.now }
@@ -58,7 +58,7 @@ fn recent_at(places: &[Recent; PLACES], address: u32) -> &Recent
 }
 
 impl Pages {
-    /// None was looked up.
+    /// Pages of which none was looked up.
     fn none() -> Pages
         ensures { (list : List Derivation) (pd right : ℕ) → AreRecentPages list pd right result }
     {
@@ -67,7 +67,7 @@ impl Pages {
         }
     }
 
-    /// What was looked up at the place of an address.
+    /// What was looked up at the place of `address`.
     #[inline(always)]
     pub(crate) fn at(&self, address: u32) -> &Recent
         ensures { (list : List Derivation) (pd right : ℕ) → AreRecentPages list pd right self.now → IsRecent list pd right result.now }
@@ -75,7 +75,7 @@ impl Pages {
         recent_at(&self.places, address)
     }
 
-    /// The page of an address is remembered from now on, with the frame that it leads to.
+    /// Remembers the page of `address`, with `frame`, which it leads to.
     pub(crate) fn learn(&mut self, address: u32, frame: u32)
         ensures { (list : List Derivation) (pd right : ℕ) → AreRecentPages list pd right self.old
             → IsRecent list pd right (record { page = address / 4096; frame = frame }) → AreRecentPages list pd right self.new }
@@ -88,7 +88,7 @@ impl Pages {
 }
 
 impl Recents {
-    /// Nothing of a protection domain was looked up yet.
+    /// The pages that were looked up of the protection domain `pd`: none yet.
     pub(crate) fn new(pd: u32) -> Recents
         ensures pd { result.pd ≡ pd }
         ensures none { (list : List Derivation) → AreRecent list result }
@@ -110,7 +110,7 @@ impl Recents {
         *self = Recents::new(self.pd);
     }
 
-    /// These, where they are of a protection domain, or else nothing of it.
+    /// These, where they are of the protection domain `pd`, or else nothing of it.
     pub(crate) fn kept_for(&self, pd: u32) -> Recents
         ensures pd { result.pd ≡ pd }
         ensures recent { (list : List Derivation) → AreRecent list self.now → AreRecent list result }
@@ -124,8 +124,8 @@ impl Recents {
 }
 
 impl Reach {
-    /// Another protection domain is entered. What is known of the one that is left stays remembered, and of the one before that only where
-    /// it is the one that is entered. Few turns leave their domain, so that this stays out of the code of each.
+    /// Enters the protection domain `pd`. What is known of the domain that is left stays remembered, and of the domain before that only where it is
+    /// the domain that is entered. Few turns leave their domain, so that this stays out of the code of each.
     #[inline(never)]
     pub(crate) fn change_domain(&mut self, pd: u32)
         ensures { self.new ≡ record self.old { pd = pd } }
@@ -136,7 +136,7 @@ impl Reach {
     }
 }
 
-/// The frame of a page of the protection domain, where that was the last.
+/// The frame of the page of `address`, where that was the last.
 #[inline(always)]
 pub(crate) fn frame_of(recent: &Recent, address: u32) -> Option<u32>
     ensures frame { (s : ReachState) (right : ℕ) → IsRecent s.nodes.delegations.list s.pd right recent.now → IfSome result (λ frame. frame_for (reached s) right address ≡ Some frame) }

@@ -9,8 +9,7 @@ use nova_model::Derivation;
 use nova_revoke::{Revoke, next_leaf};
 
 impl Reach {
-    /// The leaf of a revoke that goes next; nothing where nothing is left of what it takes. The next search may be quicker; what is kept
-    /// stays.
+    /// The leaf that `revoke` takes next; nothing where nothing is left of what it takes. The next search may be quicker; what is kept stays.
     pub fn next_leaf(&mut self, revoke: &Revoke) -> Option<Derivation>
         ensures found { result ≡ next_leaf revoke.now self.old.nodes.delegations }
         ensures leaf { IfSome result (IsLeaf revoke.now self.old.nodes.delegations) }
@@ -19,7 +18,7 @@ impl Reach {
         next_leaf(&mut self.nodes, revoke)
     }
 
-    /// Takes away the derivation of an id, which is no other's parent.
+    /// Takes away the derivation `id`, which is no other's parent.
     pub fn remove_leaf(&mut self, id: u32)
         requires childless { IsChildless self.old.nodes.delegations.list id }
         ensures delegations { self.new.nodes.delegations ≡ without self.old.nodes.delegations id }

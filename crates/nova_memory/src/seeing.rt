@@ -8,7 +8,7 @@ use crate::reach::Reach;
 use crate::viewers::Viewers;
 use nova_model::{Derivation, Kind};
 
-/// Whether a derivation is of memory, and leads to a frame.
+/// Whether the derivation `d` is of memory, and leads to `frame`.
 fn reaches(d: &Derivation, frame: u32) -> bool
     requires { d.now.order ≤ 20 }
     ensures { result ≡ reaches frame d.now }
@@ -16,7 +16,7 @@ fn reaches(d: &Derivation, frame: u32) -> bool
     matches!(d.kind, Kind::Mem) && d.target <= frame && frame - d.target < 1 << d.order
 }
 
-/// The domain of a derivation that leads to a frame is one more that sees it. It answers false where there are too many.
+/// Adds the domain of `d` to `viewers`, where `d` leads to `frame`. It answers false where there are too many.
 fn join(viewers: &mut Viewers, d: &Derivation, frame: u32) -> bool
     requires { d.now.order ≤ 20 }
     ensures { OnTrue result ((pd : ℕ) → sees viewers.new pd ≡ (sees viewers.old pd || leads_to pd frame d.now)) }
@@ -28,9 +28,9 @@ fn join(viewers: &mut Viewers, d: &Derivation, frame: u32) -> bool
     }
 }
 
-// Who sees a frame.
+// The domains that see a frame.
 impl Reach {
-    /// Whether memory of a protection domain leads to a frame.
+    /// Whether memory of the protection domain `pd` leads to `frame`.
     pub fn leads_to(&self, pd: u32, frame: u32) -> bool
         ensures { result ≡ list_any (leads_to pd frame) self.now.nodes.delegations.list }
     {
@@ -40,14 +40,14 @@ impl Reach {
         }
     }
 
-    /// The protection domains whose memory leads to a frame, where that is remembered.
+    /// The protection domains whose memory leads to `frame`, where that is remembered.
     pub fn known_viewers(&self, frame: u32) -> Option<Viewers>
         ensures { IfSome result (AreViewers self.now.nodes.delegations.list frame) }
     {
         self.sights.get(frame)
     }
 
-    /// The protection domains whose memory leads to a frame; nothing where they are too many to keep.
+    /// The protection domains whose memory leads to `frame`; nothing where they are too many to keep.
     fn viewers_of(&self, frame: u32) -> Option<Viewers>
         ensures { IfSome result (AreViewers self.now.nodes.delegations.list frame) }
     {
@@ -63,7 +63,7 @@ impl Reach {
         Some(viewers)
     }
 
-    /// The RAM frame that the present instruction stored to, where who sees it was not looked up yet.
+    /// The RAM frame that the present instruction stored to, where the domains that see it were not looked up yet.
     fn fresh(&self) -> Option<u32> {
         let frame = self.written?;
         if self.sights.has_looked(frame) {
@@ -73,7 +73,7 @@ impl Reach {
         }
     }
 
-    /// Looks up who sees a frame, and remembers it.
+    /// Looks up the domains that see `frame`, and remembers them.
     fn learn(&mut self, frame: u32)
         ensures kept { self.new ≡ self.old }
     {
@@ -81,7 +81,7 @@ impl Reach {
         self.sights.note(frame, viewers);
     }
 
-    /// Looks up who sees the RAM frame that the present instruction stored to, where that is not remembered; what is kept stays.
+    /// Looks up the domains that see the RAM frame that the present instruction stored to, where they are not remembered; what is kept stays.
     pub fn look(&mut self)
         ensures kept { self.new ≡ self.old }
     {

@@ -6,7 +6,7 @@ use crate::viewers::Viewers;
 use std::alloc::{AllocError, Global};
 use std::marker::Model;
 
-/// Who saw a frame at a version of the delegations; nothing where those were too many to keep.
+/// The domains that saw a frame at a version of the delegations; nothing where they were too many to keep.
 #[derive(Clone, Copy)]
 struct Sight {
     version: u64,
@@ -35,7 +35,7 @@ impl Model for Sights {
 }
 
 impl Sights {
-    /// Nothing is known of so many frames.
+    /// Nothing is known of any of `frames` frames.
     pub fn new(alloc: Global, frames: u32) -> Result<Sights, AllocError>
         ensures { IfOk result IsBlank }
     {
@@ -48,7 +48,7 @@ impl Sights {
         Ok(Sights { sights, version: 0 })
     }
 
-    /// The same in memory of its own.
+    /// Copies what is known into memory of its own.
     pub fn copy(&self) -> Result<Sights, AllocError>
         ensures { IfOk result (λ copy. copy ≡ self.now) }
     {
@@ -59,7 +59,7 @@ impl Sights {
         })
     }
 
-    /// Whether it would find nothing new to look who sees a frame: that was done, or it is none of RAM.
+    /// Whether a look-up of the domains that see `frame` would find nothing new: it was done, or the frame is none of RAM.
     pub(crate) fn has_looked(&self, frame: u32) -> bool {
         match self.sights.get(frame as usize) {
             Some(sight) => sight.version == self.version && self.version > 0,
@@ -67,7 +67,7 @@ impl Sights {
         }
     }
 
-    /// Who sees a frame, where that is known.
+    /// The domains that see `frame`, where they are known.
     pub fn get(&self, frame: u32) -> Option<Viewers>
         ensures { result ≡ entry (slice_get self.now frame) }
     {
@@ -79,7 +79,7 @@ impl Sights {
         }
     }
 
-    /// Who sees a frame, or that they are too many.
+    /// Notes the domains that see `frame`, or, with no `viewers`, that they are too many.
     pub fn note(&mut self, frame: u32, viewers: Option<Viewers>)
         ensures { self.new ≡ slice_set self.old frame viewers }
     {
@@ -91,7 +91,7 @@ impl Sights {
         }
     }
 
-    /// Nothing is known any more.
+    /// Forgets what is known of all frames.
     pub fn forget(&mut self)
         ensures { IsBlank self.new }
     {

@@ -13,7 +13,7 @@ use rv_core::{Outcome, Reading, Regs, step, step_known};
 
 // Instructions on what they reach.
 impl Reach {
-    /// What the word at an address that leads to a frame reads as, from now on remembered; nothing where it is no instruction.
+    /// What the word at `address`, which leads to `frame`, reads as, from now on remembered; nothing where it is no instruction.
     fn remember(&mut self, address: u32, frame: u32) -> Option<Reading>
         requires aligned { address % 4 ≡ 0 }
         requires other { address / 4096 ≢ own_page }
@@ -26,7 +26,7 @@ impl Reach {
         self.recalled.learn(self.recents.pd, address, frame, word)
     }
 
-    /// A store to the frame that an address leads to. Of what was read there nothing is remembered any more.
+    /// A store to the frame that `address` leads to. Of what was read there nothing is remembered any more.
     #[inline(always)]
     pub(crate) fn store_in(&mut self, frame: u32, address: u32, width: u32, value: u32)
         requires leads { frame_for (reached self.old) write_right address ≡ Some frame }
@@ -44,8 +44,8 @@ impl Reach {
         self.written = Some(frame);
     }
 
-    /// Reads the word at an address anew, where it may be fetched and is an instruction, and the address is a multiple of 4. From a page
-    /// that may be a thread's own nothing is read.
+    /// Reads the word at `address` anew, where it may be fetched and is an instruction, and the address is a multiple of 4. From a page that may be a
+    /// thread's own nothing is read.
     fn read_anew(&mut self, address: u32) -> Option<Reading>
         ensures same { self.new ≡ self.old }
         ensures read { IfSome result (λ r. IsReadAt self.old address r.word) }
@@ -57,8 +57,7 @@ impl Reach {
         self.remember(address, frame)
     }
 
-    /// One instruction whose word isn't remembered; it is from now on. Few instructions are, so that this stays out of the code
-    /// of each.
+    /// Executes one instruction whose word isn't remembered; it is from now on. Few instructions are, so that this stays out of the code of each.
     #[inline(never)]
     fn step_anew(&mut self, regs: &mut Regs) -> Outcome
         requires { 0 < self.old.room }
@@ -70,7 +69,7 @@ impl Reach {
         }
     }
 
-    /// One instruction on registers, as by `rv_core::step` over this bus. What the words at addresses read as is remembered.
+    /// Executes one instruction on `regs`, as by `rv_core::step` over this bus. What the words at addresses read as is remembered.
     #[inline(always)]
     pub fn step(&mut self, regs: &mut Regs) -> Outcome
         requires { 0 < self.old.room }

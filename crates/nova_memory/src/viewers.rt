@@ -23,7 +23,7 @@ impl Viewers {
         }
     }
 
-    /// Whether a domain is one of them.
+    /// Whether the domain `pd` is among the viewers.
     pub fn contains(&self, pd: u32) -> bool
         ensures { result ≡ sees self.now pd }
     {
@@ -37,7 +37,7 @@ impl Viewers {
         &self.domains[..self.count.min(MOST)]
     }
 
-    /// One more domain is among them. It answers false, and nothing has changed, where all places are taken.
+    /// Adds the domain `pd` to the viewers. It answers false, and nothing has changed, where all places are taken.
     pub(crate) fn add(&mut self, pd: u32) -> bool
         ensures { OnTrue result ((other : ℕ) → sees self.new other ≡ (sees self.old other || pd == other)) }
     {

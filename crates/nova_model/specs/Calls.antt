@@ -1,4 +1,4 @@
--- Whom a call or an exit reaches: of a call the refusals from BAD_CPU on, in their order, and else whether the handler takes it.
+-- The handler that a call or an exit reaches: of a call the refusals from BAD_CPU on, in their order, and else whether the handler takes it.
 use Rattle.std.specs.Prelude.{◌==◌, ◌||◌, Bool, true, false, not, if◌then◌else◌, Option, Some}
 use Rattle.nova_model.specs.Numbers.{EcId, CpuId}
 use Rattle.nova_range.specs.declared.status.Status.TheVariants.{Timeout, Aborted, BadCpu}

@@ -1,4 +1,4 @@
--- Who runs: of the runnable scheduling contexts of a processor the one of greatest priority, then of least stamp.
+-- What runs: of the runnable scheduling contexts of a processor, that of greatest priority, then of least stamp.
 use Rattle.std.specs.Prelude.{ℕ, ◌+◌, ◌==◌, ◌&&◌, ◌||◌, Bool, not, nat_lt, List, [], ◌∷◌, Option, Some, None, is_none, option_map, if◌then◌else◌}
 use Rattle.std.specs.List.{find, list_all, range_with_len}
 use Rattle.nova_model.specs.Numbers.{EcId, ScId, CpuId}
@@ -21,7 +21,7 @@ abbrev pub candidate_with : ScId → EcId → ℕ → Option Budget → Option C
 candidate_with sc actor priority (Some b) = Some (record { sc = sc; actor = actor; priority = priority; stamp = b.stamp })
 candidate_with sc actor priority None = None
 
--- who acts in the turns that an execution context is given: the one at the end of its chase
+-- the context that acts in the turns that an execution context is given: the end of its chase
 abbrev pub actor : KernelState → EcId → EcId
 actor k ec = chase k.contexts ec
 
@@ -51,7 +51,7 @@ outranks priority stamp other_priority other_stamp =
 abbrev pub goes_before : Candidate → Candidate → Bool
 goes_before a b = outranks a.priority a.stamp b.priority b.stamp
 
--- the one before which none of them goes
+-- the first element of `xs` before which none of them goes
 abbrev pub first_of : {T : Type 0} → (T → T → Bool) → List T → Option T
 first_of before xs = find (λ a. list_all (λ b. not (before b a)) xs) xs
 
@@ -72,7 +72,7 @@ is_idle k cpu = is_none (choice k cpu) && is_none (next_moment k.times cpu)
 abbrev pub is_quiet : KernelState → Bool
 is_quiet k = list_all (is_idle k) (range_with_len 0 k.cpus)
 
--- who acts in the processor's next turn: the one that is chosen, where nothing is due
+-- the candidate that acts in the processor's next turn: the chosen one, where nothing is due
 abbrev pub unless_due : Option Due → Option Candidate → Option Candidate
 unless_due (Some what) c = None
 unless_due None c = c

@@ -1,4 +1,4 @@
--- A turn decides a deed by looking alone, and then does it.
+-- A turn first chooses a deed without changing anything, then performs it.
 use Rattle.std.specs.Prelude.{ℕ, ◌+◌, ◌==◌, ◌&&◌, Bool, true, false, not, if◌then◌else◌, List, slice_set, Option, Some, None}
 use Rattle.nova_model.specs.Numbers.{PdId, EcId}
 use Rattle.rv_model.specs.Registers.{Registers, with_reg}
@@ -78,13 +78,13 @@ abbrev pub mark_in : Option (EcId × Mark) → Mark
 mark_in (Some (caller, mark)) = mark
 mark_in None = mark.Call
 
--- one that revokes takes the next leaf away, and returns where there is none
+-- a context that revokes takes the next leaf away, and returns where there is none
 abbrev pub removes : Option Derivation → Deed
 removes None = Returns
 removes (Some leaf) = Removes leaf
 
--- the deed of an execution context that acts in its state. One that helps makes its call again from its registers, and an exit that waits is looked up
--- again. One that waits for a reply acts where its handler is dead, which keeps it as its caller.
+-- the deed of an execution context that acts in its state. A helper makes its call again from its registers, and an exit that waits is looked up
+-- again. A caller that waits for a reply acts where its handler is dead and keeps it as its caller.
 abbrev pub deed_in : KernelState → EcId → State → Deed
 deed_in k ec Fresh = Raises startup 0 0
 deed_in k ec Ready = ready k ec (context k ec).recall
@@ -119,14 +119,14 @@ answered x status value = record x { regs = answered_registers x.regs status val
 abbrev pub parked : EcState → EcState
 parked x = record x { state = Parked; caller = None }
 
--- what the end of an item makes of the one who gives it
+-- what the end of an item makes of the context that gives it
 abbrev pub after_item : EcState → Sequel → EcState
 after_item x sequel.Item = x
 after_item x sequel.Opened = answered x Success None
 after_item x sequel.Taken = record x { state = Ready }
 after_item x (sequel.Replied caller mark) = parked x
 
--- one whose handler is dead: a call ends with ABORTED, and an exit ends who raised it
+-- a context whose handler is dead: a call ends with ABORTED, and an exit ends the context that raised it
 abbrev pub aborted : EcState → Mark → EcState
 aborted x mark.Call = answered x Aborted None
 aborted x mark.Exit = record x { state = Dead }
@@ -217,11 +217,11 @@ abbrev pub followed : KernelState → EcId → Sequel → KernelState
 followed k ec (sequel.Replied caller mark) = completed k ec caller mark
 followed k ec other = k
 
--- who waited at a semaphore has done its call, with this status, and has no deadline
+-- the context that waited at a semaphore has done its call, with `status`, and has no deadline
 abbrev pub ended_wait : KernelState → EcId → Status → KernelState
 ended_wait k ec status = record (with_context k ec (answered (context k ec) status None)) { times = with_deadline k.times ec None }
 
--- who is woken at one has done it with success
+-- a context that is woken at a semaphore has done its call with success
 abbrev pub woken_in : KernelState → Option EcId → KernelState
 woken_in k None = k
 woken_in k (Some ec) = ended_wait k ec Success

@@ -45,11 +45,11 @@ is_held_in list pd range = list_any (meets pd range) list
 abbrev pub page_in : PageNumber → Derivation → Page
 page_in page d = record { frame = d.target + (page - d.base); rights = d.rights }
 
--- what a page of a protection domain leads to: the one derivation that covers it, or nothing
+-- what a page of a protection domain leads to: the derivation that covers it, or nothing
 abbrev pub reach : List Derivation → PdId → PageNumber → Option Page
 reach list pd page = option_map (page_in page) (find (covers Mem pd page) list)
 
--- of derivations the one for which a number is least, and the one for which it is greatest
+-- the derivation for which `number` is least, and that for which it is greatest
 abbrev pub least_by : (Derivation → ℕ) → List Derivation → Option Derivation
 least_by number ds = find (λ a. list_all (λ b. nat_le (number a) (number b)) ds) ds
 
@@ -62,7 +62,7 @@ id_of d = d.id
 abbrev pub base_of : Derivation → ℕ
 base_of d = d.base
 
--- the derivation of an id, and the one of least id at or after it
+-- the derivation of an id, and that of least id at or after it
 abbrev pub with_id : List Derivation → DerivationId → Option Derivation
 with_id list id = find (λ d. d.id == id) list
 
@@ -105,7 +105,7 @@ abbrev pub derived : DerivationId → Option DerivationId → PdId → Range →
 derived id parent pd range rights target =
     record { id = id; pd = pd; kind = range.kind; base = range.base; order = range.order; rights = rights; target = target; parent = parent }
 
--- one more, and without the one of an id
+-- one derivation more, and without that of an id
 abbrev pub added : Delegations → Derivation → Delegations
 added f x = record { list = f.list ++ x ∷ []; next = f.next + 1 }
 

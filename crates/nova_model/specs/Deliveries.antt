@@ -33,7 +33,7 @@ use Rattle.nova_model.specs.declared.transfer.Transfer.{Transfer}
 
 -- WHAT IS GIVEN
 
--- a creator's: one delegation, of the range whose word is in its x12. The window is the range itself, and nobody is told.
+-- a creator's: one delegation, of the range whose word is in its x12. The window is the range itself, and no context is told.
 abbrev pub first_delivery : KernelState → EcId → PdId → Delivery
 first_delivery k ec new = record {
   range_word = reg (context k ec).regs 12;
@@ -52,8 +52,8 @@ abbrev pub whole_of : Option (Range × Rights) → ℕ
 whole_of None = 0
 whole_of (Some (range, rights)) = word_of (Some (record { kind = range.kind; base = 0; order = 20 }, rights))
 
--- the windows of the one who receives: those in the message of a thread. A virtual CPU has none for translations, and for delegations the whole space of
--- the item's own type.
+-- the windows of the receiver: those in the message of a thread. A virtual CPU has none for translations, and for delegations the whole space of the
+-- item's own type.
 abbrev pub translations_to : KernelState → EcId → ℕ
 translations_to k to = if is_thread k to then translation_window (message k to) else 0
 
@@ -74,7 +74,8 @@ delivery_between k from to item told last = record {
   last = last;
 }
 
--- a handler takes the items of its caller's message, and gives those of its own. One who came by an exit is told nothing of the items of the reply.
+-- a handler takes the items of its caller's message, and gives those of its own. A caller that came by an exit is told nothing of the items of the
+-- reply.
 abbrev pub taken_from : KernelState → EcId → ℕ → Option (EcId × Mark) → Option Delivery
 taken_from k ec item None = None
 taken_from k ec item (Some (caller, mark)) = Some (delivery_between k caller ec item (Some ec) sequel.Taken)

@@ -1,5 +1,5 @@
--- Donation: an execution context that waits for a handler has an edge to it, and its turns go along edges to the one that acts.
--- (Steinberg and Kauer, NOVA, EuroSys 2010, for donation; that one helps a handler that is busy is this project's own rule.)
+-- Donation: an execution context that waits for a handler has an edge to it, and its turns go along edges to the context that acts. (Steinberg and
+-- Kauer, NOVA, EuroSys 2010, for donation; that a caller helps a busy handler is this project's own rule.)
 use Rattle.std.specs.Prelude.{ℕ, zero, suc, ⊤, ◌≡◌, ◌≢◌, ◌==◌, ◌||◌, Bool, true, false, List, [], ◌∷◌, length, Option, Some, None, is_none, option_map, option_and_then}
 use Rattle.std.specs.List.{find, list_any}
 use Rattle.nova_model.specs.Numbers.{EcId, CpuId}
@@ -24,7 +24,7 @@ edge_of other = None
 abbrev pub edge : Contexts → EcId → Option EcId
 edge cs e = option_and_then edge_of (state_in cs e)
 
--- a handler of which nothing more will come; one that takes a message, or of which nothing more will come
+-- a handler of which nothing more will come; a handler that takes a message, or of which nothing more will come
 abbrev pub is_dead : Option State → Bool
 is_dead (Some Dead) = true
 is_dead other = false
@@ -68,7 +68,7 @@ acts_as cs (Some s) = acts_by s (option_and_then (state_in cs) (edge_of s))
 abbrev pub acts : Contexts → EcId → Bool
 acts cs e = acts_as cs (state_in cs e)
 
--- those that are met by following edges from this one, itself first; at most so many
+-- the contexts met by following edges from `e`, itself first; at most `n`
 abbrev pub met_within : ℕ → (EcId → Option EcId) → Option EcId → List EcId
 met_within zero edges e = []
 met_within (suc n) edges None = []
@@ -82,7 +82,7 @@ met cs e = met_within (length cs) (edge cs) (Some e)
 abbrev pub circle : Contexts → EcId → EcId → Bool
 circle cs h e = list_any (λ x. e == x) (met cs h)
 
--- turns stay with one that acts, and with one that has no edge
+-- turns stay with a context that acts, and with a context that has no edge
 abbrev pub stays : Contexts → EcId → Bool
 stays cs e = acts cs e || is_none (edge cs e)
 
@@ -94,7 +94,7 @@ or_itself e (Some f) = f
 abbrev pub chase : Contexts → EcId → EcId
 chase cs e = or_itself e (find (stays cs) (met cs e))
 
--- who is met after so many edges
+-- the context that is met after `n` edges
 abbrev pub after_edges : ℕ → (EcId → Option EcId) → EcId → Option EcId
 after_edges zero edges e = Some e
 after_edges (suc n) edges e = option_and_then (after_edges n edges) (edges e)
@@ -109,7 +109,7 @@ pub record IsNewEdge (cs : Contexts) (e h : ℕ) : Type 0 where
   pub one_processor : cpu_in cs h ≡ cpu_in cs e
   pub no_circle : circle cs h e ≡ false
 
--- an edge to be of one that is there
+-- an edge to be, of a context that is there
 abbrev pub MayWait : Contexts → EcId → Option EcId → Type 0
 MayWait cs e None = ⊤
 MayWait cs e (Some h) = IsNewEdge cs e h
@@ -118,11 +118,11 @@ MayWait cs e (Some h) = IsNewEdge cs e h
 abbrev pub caller_in : Contexts → EcId → Option (EcId × Mark)
 caller_in cs e = option_and_then (λ x. x.caller) (ec_in cs e)
 
--- callers are there, and on one processor with those who serve them
+-- callers are there, and on one processor with the contexts that serve them
 abbrev pub AreCallers : Contexts → Type 0
 AreCallers cs = (e c : ℕ) (mark : Mark) → caller_in cs e ≡ Some (c, mark) → cpu_in cs c ≡ cpu_in cs e
 
--- a caller to be of one that is there
+-- a caller to be, of a context that is there
 abbrev pub MayServe : Contexts → EcId → Option (EcId × Mark) → Type 0
 MayServe cs e None = ⊤
 MayServe cs e (Some (c, mark)) = cpu_in cs c ≡ cpu_in cs e

@@ -1,5 +1,5 @@
--- Exits: an exit that was raised is looked up, and is sent, waits, or ends who raised it. (NOVA specification, exceptions and their portals; reasons and
--- words of the message are this project's.)
+-- Exits: an exit that was raised is looked up, and is sent, waits, or ends the context that raised it. (NOVA specification, exceptions and their
+-- portals; reasons and words of the message are this project's.)
 use Rattle.std.specs.Prelude.{ℕ, Option, Some, None, Result, Ok, Err}
 use Rattle.nova_model.specs.Numbers.{EcId, PtId}
 use Rattle.rv_model.specs.Words.{plus}

@@ -89,8 +89,8 @@ schedules ec other = false
 abbrev pub is_scheduled : KernelState → EcId → Bool
 is_scheduled k ec = list_any (schedules ec) k.objects
 
--- create_sc: the create rules, and BAD_CAP where `ec_selector` names no execution context with bind SC, or a local thread, or one that has a
--- scheduling context already. The new one is of its processor.
+-- create_sc: the create rules, and BAD_CAP where `ec_selector` names no execution context with bind SC, or a local thread, or an execution context
+-- that has a scheduling context already. The new scheduling context is of its processor.
 abbrev pub create_sc : KernelState → PdId → Selector → Selector → Selector → ℕ → ℕ → Result Deed Status
 create_sc k domain target pd_selector ec_selector quantum priority =
     makes k domain CREATE_SC target pd_selector (λ owner. and_then (named k domain is_schedulable bind_scheduling_right ec_selector) (λ ec.
@@ -126,7 +126,7 @@ call k ec domain selector flag =
     unless (not (has_counts (message k ec))) BadPar (
     and_then (named k domain is_pt call_right selector) (λ pt. called k ec pt (admitted k.contexts ec (handler_of k pt) flag)))
 
--- reply: BAD_PAR where a local thread doesn't ask, or where its message counts more words than there are; else it goes to the caller, whom a local
+-- reply: BAD_PAR where a local thread doesn't ask, or where its message counts more words than there are; else it goes to the caller, which a local
 -- thread that is at work has
 abbrev pub replied : KernelState → EcId → Option (EcId × Mark) → Result Deed Status
 replied k ec (Some (caller, mark)) = Ok (Replies caller mark (has_items (message k ec)))
@@ -137,8 +137,9 @@ reply k ec =
     unless (not (is_local_thread k ec)) BadPar (
     unless (not (has_counts (message k ec))) BadPar (replied k ec (context k ec).caller))
 
--- sm_ctrl: BAD_CAP where the selector names no semaphore with the right to it. An up is OVERFLOW at the greatest counter with nobody waiting; a down
--- lowers the counter, or waits. One that waits for so many ticks has its deadline that long after this turn, and without any tick it is TIMEOUT.
+-- sm_ctrl: BAD_CAP where the selector names no semaphore with the right to it. An up is OVERFLOW at the greatest counter with no context waiting; a
+-- down lowers the counter, or waits. A down that waits for `ticks` ticks has its deadline that long after this turn, and without any tick it is
+-- TIMEOUT.
 abbrev pub upped_by : SmId → Result (Option EcId) too.Overflow → Result Deed Status
 upped_by sm (Ok whom) = Ok (Ups sm whom)
 upped_by sm (Err e) = Err Overflow

@@ -16,7 +16,7 @@ Semaphores = List (Option Semaphore)
 abbrev pub semaphore_at : Semaphores → SmId → Option Semaphore
 semaphore_at all sm = entry (slice_get all sm)
 
--- where there is none the counter is 0, and nobody waits
+-- where there is none the counter is 0, and no context waits
 abbrev pub semaphore_in : Option Semaphore → Semaphore
 semaphore_in (Some s) = s
 semaphore_in None = record { count = 0; waiting = [] }
@@ -46,7 +46,7 @@ changed change all sm = changed_by change all sm (semaphore_at all sm)
 
 -- UP
 
--- the first that waits goes; where nobody waits the counter rises by one, unless it is at its greatest
+-- the first that waits goes; where none waits the counter rises by one, unless it is at its greatest
 abbrev pub raised_with : ℕ → List EcId → Semaphore
 raised_with count [] = record { count = if count == greatest then count else count + 1; waiting = [] }
 raised_with count (ec ∷ ecs) = record { count = count; waiting = ecs }
@@ -57,7 +57,7 @@ raised s = raised_with s.count s.waiting
 abbrev pub upped : Semaphores → SmId → Semaphores
 upped = changed raised
 
--- who is woken: the first that waits. Nobody is where nobody waits, and that at the greatest counter is an overflow
+-- the context that is woken: the first that waits. None is woken where none waits, and that at the greatest counter is an overflow
 abbrev pub woken_of : ℕ → List EcId → Result (Option EcId) Overflow
 woken_of count [] = if count == greatest then Err (record {}) else Ok None
 woken_of count (ec ∷ ecs) = Ok (Some ec)

@@ -41,7 +41,7 @@ Contexts = List (Option EcState)
 abbrev pub ec_in : Contexts → EcId → Option EcState
 ec_in cs e = entry (slice_get cs e)
 
--- the execution context of a number; one that names none is dead
+-- the execution context of a number; a number that names none reads as a dead context
 abbrev pub nobody : EcState
 nobody = record { id = 0; cpu = 0; state = Dead; regs = record { pc = 0; x = [] }; caller = None; recall = false }
 

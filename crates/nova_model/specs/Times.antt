@@ -87,7 +87,7 @@ ticked t cpu = record t { clocks = slice_set t.clocks cpu (clock t cpu + 1) }
 abbrev pub with_deadline : Times → EcId → Option Deadline → Times
 with_deadline t ec d = record t { deadlines = slice_set t.deadlines ec d }
 
--- one that waits to a deadline has it; one that waits without has none before
+-- a context that waits to a deadline has it; a context that waits without had none before
 abbrev pub awaited_in : List (Option Deadline) → EcId → Option Deadline → List (Option Deadline)
 awaited_in deadlines ec None = deadlines
 awaited_in deadlines ec (Some d) = slice_set deadlines ec (Some d)

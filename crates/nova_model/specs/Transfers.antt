@@ -66,7 +66,7 @@ dest_of j = record { kind = j.kind; base = j.dest; order = j.order }
 abbrev pub is_left : Job → Derivation → Bool
 is_left j d = is_same_kind j.kind d.kind && (d.pd == j.giver && (nat_le j.cursor d.base && overlaps (range_of d) (source_of j)))
 
--- the one of least base is next
+-- the derivation of least base is next
 abbrev pub next_source : List Derivation → Job → Option Derivation
 next_source list j = least_by base_of (filter (is_left j) list)
 

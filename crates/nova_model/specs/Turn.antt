@@ -67,7 +67,7 @@ pub record Step : Type 0 where
   pub kernel : KernelState
   pub event : Event
 
--- the event of a deed, by processor, scheduling context and who does it
+-- the event of a deed, by processor, scheduling context and the context that does it
 abbrev pub event_by : CpuId → ScId → EcId → Deed → Event
 event_by cpu sc ec d = record { cpu = cpu; sc = sc; ec = ec; kind = (sign_of d).0; a = (sign_of d).1; b = (sign_of d).2 }
 
@@ -84,7 +84,7 @@ event_without cpu ec kind a b = record { cpu = cpu; sc = 0; ec = ec; kind = kind
 abbrev pub counted_step : KernelState → CpuId → Event → Step
 counted_step k cpu e = record { kernel = counted k cpu; event = e }
 
--- an alarm ups its semaphore, which at the greatest counter with nobody waiting stays
+-- an alarm ups its semaphore, which at the greatest counter with no context waiting stays
 abbrev pub whom_of : Result (Option EcId) Overflow → Option EcId
 whom_of (Ok whom) = whom
 whom_of (Err full) = None
@@ -120,7 +120,7 @@ what_is_due k cpu (due.Deadline ec) = expiring k cpu ec (deadline_sm (deadline_o
 abbrev pub ticking : KernelState → CpuId → Step
 ticking k cpu = counted_step k cpu (event_without cpu 0 event.Tick 0 0)
 
--- What comes of a processor: what is due, else the deed of who is chosen, else a tick where something is to come
+-- What comes of a processor: what is due, else the deed of the chosen context, else a tick where something is to come
 abbrev pub tick_by : KernelState → CpuId → Option ℕ → Option Step
 tick_by k cpu None = None
 tick_by k cpu (Some moment) = Some (ticking k cpu)

@@ -14,7 +14,7 @@ pub enum Admit {
 /// What comes of an exit at the handler of its portal.
 #[derive(Clone, Copy)]
 pub enum ExitAdmit {
-    /// No reply can come: who raised it dies.
+    /// No reply can come: the context that raised it dies.
     Dies,
     /// The handler is busy: the exit waits for it.
     Waits,

@@ -1,5 +1,5 @@
-/// What changes in a scheduling context: the turns that are left of its quantum, the stamp that
-/// orders it among its equals, and its ticks, the turns that it paid for.
+/// What changes in a scheduling context: turns left of its quantum, the stamp that orders it among its equals,
+/// and its ticks, the turns that it paid for.
 #[derive(Clone, Copy)]
 pub struct Budget {
     pub left: u32,

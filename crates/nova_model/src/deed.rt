@@ -5,9 +5,8 @@ use crate::times::Deadline;
 use crate::transfer::{ItemEnd, ItemWords, Reason, Sequel};
 use nova_range::{Mtd, Range, Status};
 
-/// What an execution context does in its turn, and nothing of how it was found out. All that the turn
-/// does to others is in it, but for the store of an instruction: `Steps` stands for the instruction at
-/// pc, whatever it is.
+/// What an execution context does in its turn; how it was decided is not told. All that the turn does to others
+/// is in it, but for the store of an instruction: `Steps` stands for the instruction at pc, whatever it is.
 #[derive(Clone, Copy)]
 pub enum Deed {
     /// Nothing: it isn't about to act.
@@ -106,8 +105,7 @@ pub enum Deed {
     Helps {
         handler: u32,
     },
-    /// It replies to its caller, who came by a call or by an exit, and gives the items of the reply first
-    /// where there are any.
+    /// It replies to its caller, which came by a call or by an exit, and gives the items of the reply first where there are any.
     Replies {
         caller: u32,
         mark: Mark,
@@ -129,7 +127,7 @@ pub enum Deed {
     },
     /// Its revoke returns: nothing is left of what it takes away.
     Returns,
-    /// Its up of a semaphore wakes the first that waits there, or raises the counter where nobody waits.
+    /// Its up of a semaphore wakes the first that waits there, or raises the counter where none waits.
     Ups {
         sm: u32,
         woken: Option<u32>,

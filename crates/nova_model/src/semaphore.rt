@@ -1,4 +1,4 @@
-/// The counter of a semaphore is 2^32 - 1, and nobody waits: it can't rise.
+/// The counter of a semaphore can't rise: it is 2^32 - 1, and no context waits.
 #[derive(Clone, Copy, PartialEq, Debug)]
 pub struct Overflow;
 

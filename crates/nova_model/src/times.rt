@@ -1,4 +1,4 @@
-/// Until when an execution context of a processor waits at a semaphore: it goes on at a clock of `at`.
+/// A limit to the wait of an execution context of `cpu` at the semaphore `sm`: it goes on at a clock of `at`.
 #[derive(Clone, Copy)]
 pub struct Deadline {
     pub cpu: u32,
@@ -6,8 +6,7 @@ pub struct Deadline {
     pub at: u64,
 }
 
-/// A semaphore is upped by a processor, at a moment of its clock and then again after each period, so
-/// many times.
+/// An alarm: a semaphore is upped by a processor, at a moment of its clock and then again after each period, `count` times.
 #[derive(Clone, Copy)]
 pub struct Alarm {
     pub cpu: u32,

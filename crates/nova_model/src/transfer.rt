@@ -54,7 +54,7 @@ pub struct Transfer {
 /// How an item ended.
 #[derive(Clone, Copy)]
 pub enum ItemEnd {
-    /// Nothing is left of a delegation, of which so many children were made.
+    /// Nothing is left of a delegation, of which this many children were made.
     Given(u32),
     /// A delegation was skipped as a whole.
     Skipped(Skip),
@@ -80,7 +80,7 @@ pub enum Sequel {
     Opened,
     /// A handler has taken the items of a call.
     Taken,
-    /// The reply to this caller completes, who came by a call or by an exit.
+    /// The reply to this caller, which came by a call or by an exit, completes.
     Replied(u32, Mark),
 }
 
@@ -97,8 +97,7 @@ pub struct Delivery {
     /// The windows, as range words, of translations and of delegations.
     pub translations: u32,
     pub delegations: u32,
-    /// The execution context that finds in its message words what came of an item; nobody for a first
-    /// range, and for a reply to an exit.
+    /// The execution context that finds in its message words what came of an item; none for a first range, and for a reply to an exit.
     pub told: Option<u32>,
     /// How many items there are.
     pub items: u32,

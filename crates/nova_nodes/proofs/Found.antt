@@ -1,4 +1,4 @@
--- Searches among derivations: what is found is the only one that it can be.
+-- Searches among derivations: what is found is the only derivation that it can be.
 use Rattle.std.proofs.Common.{◌≡◌, ℕ, ◌<◌, ◌≤◌, List, [], ◌∷◌, ap, sym, ◌∙◌, refl, inl, inr, arith}
 use Rattle.std.specs.Prelude.{Bool, true, false, nat_le, Some, None}
 use Rattle.std.specs.List.{find, list_all}
@@ -9,7 +9,7 @@ use Rattle.law_forest.proofs.Lines.{member_found}
 use Rattle.law_forest.proofs.Members.{IsIn}
 pub use Rattle.law_forest.proofs.Pairs.{pairs_at, same_id}
 
--- the only one that passes is found, and none where none passes
+-- the only member that passes is found, and none where none passes
 pub find_only : {T : Type 0} (p : T → Bool) (xs : List T) (x : T) → IsIn xs x → p x ≡ true → ((y : T) → IsIn xs y → p y ≡ true → y ≡ x) → find p xs ≡ Some x
 find_only p [] x i h only = absurd i
 find_only p (y ∷ ys) x i h only = by_test (p y) refl i (λ j. find_only p ys x j h (λ z k. only z (inr k)))
@@ -23,7 +23,7 @@ pub find_none : {T : Type 0} (p : T → Bool) (xs : List T) → ((x : T) → IsI
 find_none p [] h = refl
 find_none p (x ∷ xs) h = rw (h x (inl refl)) (find_none p xs (λ y i. h y (inr i)))
 
--- one that is there and passes is found, or another is
+-- a member that passes is found, or another is
 pub not_found : {T : Type 0} (p : T → Bool) (xs : List T) (x : T) → find p xs ≡ None → IsIn xs x → p x ≡ false
 not_found p [] x none i = absurd i
 not_found p (y ∷ ys) x none i = by_test (p y) refl i (λ g j. not_found p ys x g j)
@@ -47,7 +47,7 @@ true_at p [] x h i = absurd i
 true_at p (y ∷ ys) x h (inl e) = let k : p y ≡ true = grind (arith, h) in ap p (sym e) ∙ k
 true_at p (y ∷ ys) x h (inr i) = true_at p ys x (let k : list_all p ys ≡ true = grind (arith, h) in k) i
 
--- the one of least number, and the one of greatest, where no two have one number
+-- the derivation of least number, and that of greatest, where no two have the same number
 pub least_only : (number : Derivation → ℕ) (ds : List Derivation) (d : Derivation) → IsIn ds d → ((b : Derivation) → IsIn ds b → number d ≤ number b) →
     ((b : Derivation) → IsIn ds b → number b ≡ number d → b ≡ d) → least_by number ds ≡ Some d
 least_only number ds d i least only =

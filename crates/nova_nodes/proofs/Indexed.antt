@@ -61,7 +61,7 @@ kept_at spaces list pd kind d indexed i domain space =
     let here : Contains (entries_at spaces pd kind) (entry_of d) = rw (sym domain, sym space) at in
     in_from_contains (entries_at spaces pd kind) (entry_of d) here
 
--- what an index finds at a place is the one derivation that covers it
+-- what an index finds at a place is the derivation that covers it
 pub at_is : (spaces : List (Option SpaceState)) (f : Delegations) (pd : ℕ) (kind : Kind) (place : ℕ) → IsForest f → IsIndexed spaces f.list →
     option_and_then (with_id f.list) (key_at place (entries_at spaces pd kind)) ≡ find (covers kind pd place) f.list
 at_is spaces f pd kind place forest indexed = by_entry (find (index.has_place place) entries) refl (find (covers kind pd place) f.list) refl

@@ -1,4 +1,4 @@
--- The indices hold the derivations where one joins, and where one goes.
+-- The indices hold the derivations where a derivation joins, and where one goes.
 use Rattle.std.proofs.Common.{◌≡◌, ℕ, List, [], ◌∷◌, ◌++◌, ap, sym, ◌∙◌, refl, inl, inr, arith, subst}
 use Rattle.std.specs.Prelude.{Bool, true, false, ◌⊎◌, ◌==◌, not, Contains, Option}
 use Rattle.std.specs.List.{AllByRecursion}
@@ -17,7 +17,7 @@ use Rattle.nova_nodes.specs.Spaces.{SpaceState, IsIndexed, IsEntryOf, entries_at
 use Rattle.nova_nodes.proofs.Found.{same_id}
 use Rattle.nova_nodes.proofs.Indexed.{meeting, kept_at, in_put, put_there, put_cases, last_in}
 
--- a space that is this one
+-- a space that is that of `pd` and `kind`
 record IsSpace (pd : ℕ) (kind : Kind) (other : ℕ) (space : Kind) : Type 0 where
   domain : other ≡ pd
   kind_is : space ≡ kind
@@ -30,7 +30,7 @@ is_space pd kind other space h =
 of_space : (pd : ℕ) (kind : Kind) (other : ℕ) (space : Kind) → other ≡ pd → space ≡ kind → is_of pd kind other space ≡ true
 of_space pd kind other space domain same = and_from (other == pd) (is_same_kind kind space) (eq-eqb other pd domain) (ap (is_same_kind kind) same ∙ kind_itself kind)
 
--- an entry of a space, where this one is it
+-- an entry of a space, where the space of `pd` and `kind` is it
 in_space_of : (spaces : List (Option SpaceState)) (pd : ℕ) (kind : Kind) (other : ℕ) (space : Kind) (e : Entry) (es : List Entry) → IsSpace pd kind other space → entries_at spaces pd kind ≡ es →
     IsIn es e → Contains (entries_at spaces other space) e
 in_space_of spaces pd kind other space e es s is i = rw (s.domain, s.kind_is, is) (contains_from_in es e i)
@@ -98,7 +98,7 @@ indexed_less spaces others f d forest there indexed here same = record {
       stays a k.0 k.1 (is_of d.pd d.kind a.pd a.kind) refl);
 }
   where
-    -- an entry of another than the one that goes
+    -- an entry of another derivation than the one that goes
     of_other : (pd : ℕ) (kind : Kind) (e : Entry) (of : IsEntryOf f.list pd kind e) → (of.of ≡ d → ⊥) → IsEntryOf (without f d.id).list pd kind e
     of_other pd kind e of other =
         let i = in_from_contains f.list of.of of.there in

@@ -1,4 +1,4 @@
--- Derivations stay sound where one joins and where a childless one goes.
+-- Derivations stay sound where a derivation joins and where a childless one goes.
 use Rattle.std.proofs.Common.{◌≡◌, ℕ, refl, ap, sym, ◌∙◌}
 use Rattle.std.specs.Prelude.{true, not, ◌==◌, Option, Some, None, option_map, option_and_then}
 use Rattle.std.proofs.lemmas.List.Elements.{All-filter, All-push}

@@ -143,7 +143,7 @@ family_new list x first last most = record {
 
 -- ONE MORE
 
--- the newest child before of the parent of one that joins
+-- the newest child before of the parent of a derivation that joins
 pub first_facts : (list : List Derivation) (o first : Option ℕ) → (o ≡ None → first ≡ None) → ((p : ℕ) → o ≡ Some p → first ≡ option_map id_of (newest_child list p)) → IsMostOf Below (is_child_in o) list first
 first_facts list None first none some = subst (IsMostOf Below (is_child_in None) list) (sym (none refl)) (λ d i. refl)
 first_facts list (Some p) first none some = subst (IsMostOf Below (is_child_of p) list) (sym (some p refl)) (newest_facts (is_child_of p) list)

@@ -135,9 +135,9 @@ derivation_in (m ∷ nodes) n (inr i) = inr (derivation_in nodes n i)
 pub family_at : (nodes : List Node) (n : Node) → AreLinked nodes → IsIn nodes n → IsFamily (derivations nodes) n
 family_at nodes n linked i = family_facts (derivations nodes) n (all_at (λ m. m ≡ link (derivations nodes) m.derivation) nodes n linked i)
 
--- WHO LEADS TO ONE
+-- WHICH NODES LEAD TO A NODE
 
--- what is most of an id is the one of that id
+-- what is most of an id is the derivation of that id
 pub most_at : (le : ℕ → ℕ → Type 0) (p : Derivation → Bool) (list : List Derivation) (d : Derivation) → AreRising list → IsIn list d → IsMost le p list d.id → p d ≡ true
 most_at le p list d rising i m = let e = same_id list m.of d rising m.there i m.its_id in ap p (sym e) ∙ m.passes
 
@@ -157,7 +157,7 @@ newest_at list n parent (Some id) f i first child none =
     by_test true h one low is off = let on = younger_passes n.derivation.parent n.derivation.id first.of one (grind (arith, h)) in absurd (cc)
     by_test false h one low is off = grind (arith, h, low, is)
 
--- who has one as its next older child is the next younger of that, and the other way round
+-- a node that has another as its next older sibling is the next younger of that, and the other way round
 pub younger_at : (list : List Derivation) (n y : Node) → AreRising list → IsFamily list n → IsFamily list y → IsIn list n.derivation → IsIn list y.derivation →
     IsMost Below (older_test n.derivation.parent n.derivation.id) list y.derivation.id → is_id n.derivation.id y.younger ≡ true
 younger_at list n y rising fn fy i j m = by_link y.younger fy.younger

@@ -1,4 +1,4 @@
--- Of derivations that pass a test the one that goes before all: of greatest id, or of least.
+-- Of derivations that pass a test, that which goes before all: of greatest id, or of least.
 use Rattle.std.proofs.Common.{◌≡◌, ℕ, ◌<◌, ◌≤◌, List, [], ◌∷◌, ◌++◌, ap, sym, ◌∙◌, refl, inl, inr, arith, subst}
 use Rattle.std.specs.Prelude.{Bool, true, false, ◌⊎◌, ◌==◌, not, nat_le, filter, if◌then◌else◌, Option, Some, None, option_map}
 use Rattle.std.proofs.lemmas.Bool.{eqb-true}
@@ -11,7 +11,7 @@ use Rattle.nova_nodes.specs.Links.{past}
 use Rattle.nova_nodes.proofs.Found.{greatest_only, least_only, same_id}
 use Rattle.nova_nodes.proofs.Indexed.{in_either, in_left, last_in}
 
--- one that passes, and stands so to all that do
+-- a derivation that passes, and stands so to all that do
 pub record IsMost (le : ℕ → ℕ → Type 0) (p : Derivation → Bool) (list : List Derivation) (id : ℕ) : Type 0 where
   pub of : Derivation
   pub there : IsIn list of
@@ -94,7 +94,7 @@ most_stays le p list x (Some id) m off = record {
     by_side d h (inr (inl e)) = let k : p x ≡ true = ap p e ∙ h in absurd (cc)
     by_side d h (inr (inr i)) = absurd i
 
--- it passes, and the one before stays the most
+-- it passes, and what was most before stays the most
 pub most_later : (le : ℕ → ℕ → Type 0) (p : Derivation → Bool) (list : List Derivation) (x : Derivation) (id : ℕ) → IsMost le p list id → le x.id id → IsMost le p (list ++ x ∷ []) id
 most_later le p list x id m low = record {
   of = m.of;
@@ -162,7 +162,7 @@ is_other id list d i off = in_filtered (λ (a : Derivation). not (a.id == id)) l
     by_test true h = absurd (off (eqb-true d.id id h))
     by_test false h = refl
 
--- what one is to the one that goes: it is next to it
+-- what a derivation is to the one that goes: it is next to it
 pub record IsNext (le : ℕ → ℕ → Type 0) (p q : Derivation → Bool) (list : List Derivation) (gone : ℕ) : Type 0 where
   pub within : (d : Derivation) → IsIn list d → q d ≡ true → p d ≡ true
   pub apart : (d : Derivation) → IsIn list d → q d ≡ true → d.id ≡ gone → ⊥

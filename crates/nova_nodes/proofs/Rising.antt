@@ -1,4 +1,4 @@
--- Derivations by rising id: the first that passes is the one of least id, and those that are left from an id on.
+-- Derivations by rising id: the first that passes is that of least id, and those that are left from an id on.
 use Rattle.std.proofs.Common.{◌≡◌, ◌∙◌, refl, sym, ap, subst, ℕ, ◌+◌, ◌<◌, ◌≤◌, Bool, true, false, List, [], ◌∷◌, filter, Some, None, arith}
 use Rattle.std.specs.Prelude.{nat_le, if◌then◌else◌}
 use Rattle.std.specs.List.{find, list_all, AllByRecursion}
@@ -17,7 +17,7 @@ from_0 (d ∷ ds) =
     let passes : nat_le 0 d.id ≡ true = grind (arith, nat_tests) in
     ap (λ b. if b then d ∷ filter (is_from 0) ds else filter (is_from 0) ds) passes ∙ ap (λ r. d ∷ r) (from_0 ds)
 
--- what holds of each holds of the one that is found
+-- what holds of each holds of the derivation that is found
 found : (P : Derivation → Type 0) (p : Derivation → Bool) (list : List Derivation) (d : Derivation) → AllByRecursion P list → find p list ≡ Some d → P d
 found P p [] d all e = cc
 found P p (x ∷ xs) d all e = go (p x) (found P p xs d all.1) e where
@@ -36,14 +36,14 @@ passes p (x ∷ xs) d e = go (p x) refl (passes p xs d) e where
 pub found_from : (id : ℕ) (list : List Derivation) (d : Derivation) → find (is_from id) list ≡ Some d → id ≤ d.id
 found_from id list d is = let test = passes (is_from id) list d is in grind (arith, nat_tests, test)
 
--- all that come after one are from its next id on
+-- all that come after a derivation are from its next id on
 rest_from : (id : ℕ) (x : Derivation) (xs : List Derivation) → AllByRecursion (λ d. x.id < d.id) xs → id ≤ x.id + 1 → filter (is_from id) xs ≡ xs
 rest_from id x [] all le = refl
 rest_from id x (d ∷ ds) all le =
     let passes : nat_le id d.id ≡ true = grind (arith, nat_tests) in
     ap (λ b. if b then d ∷ filter (is_from id) ds else filter (is_from id) ds) passes ∙ ap (λ r. d ∷ r) (rest_from id x ds all.1 le)
 
--- the one that is found is the first that is left
+-- the derivation that is found is the first that is left
 pub found_first : (id : ℕ) (list : List Derivation) (d : Derivation) → Rise list → find (is_from id) list ≡ Some d
     → filter (is_from id) list ≡ d ∷ filter (is_from (d.id + 1)) list
 found_first id [] d rise e = cc
@@ -83,7 +83,7 @@ all_kept d p (x ∷ xs) all = go (p x) (all_kept d p xs all.1) where
 first_least : (d : Derivation) (ds : List Derivation) → list_all (λ b. nat_le d.id b.id) ds ≡ true → least_by id_of (d ∷ ds) ≡ Some d
 first_least d ds all = let itself : nat_le d.id d.id ≡ true = grind arith in grind (arith, itself, all)
 
--- the one of least id is the first that is found
+-- the derivation of least id is the first that is found
 pub least_found : (id : ℕ) (list : List Derivation) → Rise list → from_id list id ≡ find (is_from id) list
 least_found id [] rise = refl
 least_found id (x ∷ xs) rise = go (nat_le id x.id) (least_found id xs rise.1) where

@@ -9,7 +9,7 @@ use Rattle.nova_range.specs.Indices.{IsRising, ends_after}
 pub use Rattle.nova_range.proofs.Sorted.{filter_all, filter_none, held, key_held}
 use Rattle.law_forest.proofs.Members.{IsIn, all_at}
 
--- the first that has a place at or after this one is the one of least base that does
+-- the first entry that has a place at or after `place` is that of least base that does
 pub first_least : (place : ℕ) (es : List Entry) (e f : Entry) → IsRising es → find (ends_after place) es ≡ Some e → IsIn es f → ends_after place f ≡ true → e.range.base ≤ f.range.base
 first_least place [] e f rising is i h = absurd i
 first_least place (a ∷ es) e f rising is i h = by_test (ends_after place a) refl i is (λ j k. first_least place es e f rising.1 k j h)

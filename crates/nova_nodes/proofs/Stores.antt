@@ -13,7 +13,7 @@ use Rattle.nova_nodes.proofs.Slots.{AreRaised, Gone, Kept, Slot, before, first_a
 
 -- WHAT A PLACE HOLDS
 
--- a node that has an id has that one
+-- a node that is found by an id has that id
 pub has_id : (id : ℕ) (o : Option Node) (n : Node) → of_id id o ≡ Some n → n.derivation.id ≡ id
 has_id id None n is = absurd (cc)
 has_id id (Some m) n is = by_test (is_number node_id id m) refl is

@@ -12,7 +12,7 @@ use Rattle.nova_nodes.specs.Stores.{is_number, node_id}
 use Rattle.nova_nodes.proofs.Links.{AreOfOne, IsFamily, derivation_in, family_at, family_from, most_at, older_at, older_facts, older_passes, older_test, parent_at, younger_at, younger_facts, younger_passes, younger_test}
 use Rattle.nova_nodes.proofs.Most.{Above, AreRising, Below, IsMost, IsMostOf, IsNext, most_passes, others, rising_others}
 
--- PAST ONE THAT GOES
+-- PAST A NODE THAT GOES
 
 past_off : (gone : ℕ) (next o : Option ℕ) → (o ≡ Some gone → ⊥) → past gone next o ≡ o
 past_off gone next None off = refl
@@ -87,7 +87,7 @@ child_named id (Some other) h = ap (λ n. Some n) (eqb-true other id h)
 same_parents : {a b : Option ℕ} → AreOfOne a b → b ≡ a
 same_parents one = one.second ∙ sym one.first
 
--- with the rest a node is linked once it is led past the one that goes
+-- with the rest a node is linked once it is led past the node that goes
 pub family_left : (list : List Derivation) (n y : Node) → AreRising list → IsFamily list n → IsFamily list y → IsIn list n.derivation → IsIn list y.derivation →
     IsFamily (others y.derivation.id list) (left y n)
 family_left list n y rising fn fy i j = record {

@@ -135,7 +135,7 @@ trail_less f gone t forest childless trail = record {
   way = λ same d a is of. way_left f.list gone d a forest.rising childless (trail.way same d a (found_before f.list gone t.from d forest.rising is) (found_before f.list gone t.at a forest.rising of)) (not_gone f.list gone t.at a of);
 }
 
--- the one before the end of a way
+-- the derivation before the end of a way
 back : (list : List Derivation) (d a : Derivation) → IsOnWay list d a → (a ≡ d) ⊎ ((b : Derivation) × IsOnWay list d b × (newest_child list b.id ≡ Some a))
 back list d a (Here _) = inl refl
 back list d a (On _ c _ is rest) = by_rest (back list c a rest)

@@ -36,12 +36,12 @@ derivations nodes = map derivation_of nodes
 abbrev pub AreLinked : List Node → Type 0
 AreLinked nodes = AllByRecursion (λ n. n ≡ link (derivations nodes) n.derivation) nodes
 
--- a link that does not lead to one that goes, but past it
+-- a link that does not lead to the node that goes, but past it
 abbrev pub past : ℕ → Option ℕ → Option ℕ → Option ℕ
 past gone next None = None
 past gone next (Some id) = if id == gone then next else Some id
 
--- a node without the one that goes
+-- a node without the node that goes
 abbrev pub left : Node → Node → Node
 left gone n = record {
   derivation = n.derivation;
@@ -68,7 +68,7 @@ joined x n = record {
   younger = (if is_child_in x.parent n.derivation then or_else n.younger x.id else n.younger);
 }
 
--- a change of the one node of an id
+-- a change of the node of an id
 abbrev pub changed_at : (Node → Node) → Option ℕ → Node → Node
 changed_at change to n = if is_id n.derivation.id to then change n else n
 

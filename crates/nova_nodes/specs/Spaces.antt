@@ -59,7 +59,7 @@ entries_there kind (Some s) = entries_in kind s
 abbrev pub entries_at : List (Option SpaceState) → ℕ → Kind → List Entry
 entries_at spaces pd kind = entries_there kind (slice_get spaces pd)
 
--- a domain's space of a kind is this one
+-- whether the space of `other` and `space` is that of `pd` and `kind`
 abbrev pub is_of : ℕ → Kind → ℕ → Kind → Bool
 is_of pd kind other space = other == pd && is_same_kind kind space
 

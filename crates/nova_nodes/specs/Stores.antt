@@ -47,6 +47,6 @@ AreInOrder places = ArePairs (λ a b. a.id < b.id) places
 abbrev pub AreRising : List Node → Type 0
 AreRising nodes = ArePairs (λ a b. a.derivation.id < b.derivation.id) nodes
 
--- a node in the place of the one of its id
+-- a node in the place of the node of its id
 abbrev pub put : Node → Node → Node
 put node n = if n.derivation.id == node.derivation.id then node else n

@@ -8,7 +8,7 @@ pub data IsOnWay (list : List Derivation) : Derivation → Derivation → Type 0
   Here : (d : Derivation) → IsOnWay list d d
   On : (d c a : Derivation) → newest_child list d.id ≡ Some c → IsOnWay list c a → IsOnWay list d a
 
--- where none has joined since, and both are there, it came so far
+-- where no derivation has joined since, and both ends are there, the way came so far
 pub record IsTrail (f : Delegations) (t : Trail) : Type 0 where
   pub old : t.next ≤ f.next
   pub way : t.next ≡ f.next → (d a : Derivation) → with_id f.list t.from ≡ Some d → with_id f.list t.at ≡ Some a → IsOnWay f.list d a

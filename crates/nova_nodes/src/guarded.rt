@@ -1,7 +1,7 @@
 use crate::nodes::Nodes;
 use nova_range::{Index, Range};
 
-/// A revoke that runs, as a delegation sees it: meanwhile no derivation may join that would add to what it
+/// A revoke that runs, as a delegation sees it. Meanwhile no derivation may join that would add to what it
 /// takes, or that would be its protection domain's with a place of its range.
 pub trait Guarded {
     ghost use Rattle.std.specs.Prelude.{◌≡◌, ◌+◌, ◌^◌, ◌≤◌, IfSome, IsSome};

@@ -32,7 +32,7 @@ impl Model for Linked {
     ghost invariant = { λ l. AreLinked l.store.nodes × ArePairs (λ a b. a.id < b.id) (derivations l.store.nodes) };
 }
 
-/// Whether a link leads to an id.
+/// Whether `link` leads to `id`.
 fn is_id(id: u32, link: Option<u32>) -> bool
     ensures { result ≡ is_id id link }
 {
@@ -42,7 +42,7 @@ fn is_id(id: u32, link: Option<u32>) -> bool
     }
 }
 
-/// A link past one that goes.
+/// `link`, or `next` where it leads to the node `gone`.
 fn past(gone: u32, next: Option<u32>, link: Option<u32>) -> Option<u32>
     ensures { result ≡ past gone next link }
 {
@@ -52,7 +52,7 @@ fn past(gone: u32, next: Option<u32>, link: Option<u32>) -> Option<u32>
     }
 }
 
-/// A node without the one that goes.
+/// `node` with its links led past `gone`, a node that goes.
 fn left(gone: &Node, node: Node) -> Node
     ensures { result ≡ left gone.now node }
 {
@@ -64,7 +64,7 @@ fn left(gone: &Node, node: Node) -> Node
     }
 }
 
-/// Whether a derivation is a child of this parent, if that is one.
+/// Whether `d` is a child of `parent`, if there is one.
 fn is_child_in(parent: Option<u32>, d: &Derivation) -> bool
     ensures { result ≡ is_child_in parent d.now }
 {
@@ -74,7 +74,7 @@ fn is_child_in(parent: Option<u32>, d: &Derivation) -> bool
     }
 }
 
-/// The next younger child where one more joins.
+/// `link`, or else `id`: the next younger child where the derivation `id` joins.
 fn or_else(link: Option<u32>, id: u32) -> Option<u32>
     ensures { result ≡ or_else link id }
 {
@@ -84,7 +84,7 @@ fn or_else(link: Option<u32>, id: u32) -> Option<u32>
     }
 }
 
-/// A node where one more derivation joins, of the greatest id.
+/// `node` where `x` joins, a derivation of the greatest id.
 fn joined(x: &Derivation, node: Node) -> Node
     ensures { result ≡ joined x.now node }
 {
@@ -106,7 +106,7 @@ fn joined(x: &Derivation, node: Node) -> Node
     }
 }
 
-/// Leads the links of one node past one that goes.
+/// Leads the links of the node `to` past `gone`, a node that goes.
 fn pass(store: &mut Store, to: Option<u32>, gone: &Node)
     ensures { store.new ≡ record store.old { nodes = map (changed_at (left gone.now) to) store.old.nodes } }
 {
@@ -115,7 +115,7 @@ fn pass(store: &mut Store, to: Option<u32>, gone: &Node)
     store.set(left(gone, node));
 }
 
-/// Leads the links of one node to one that joins.
+/// Leads the links of the node `to` to `x`, a derivation that joins.
 fn join(store: &mut Store, to: Option<u32>, x: &Derivation)
     ensures { store.new ≡ record store.old { nodes = map (changed_at (joined x.now) to) store.old.nodes } }
 {
@@ -143,7 +143,7 @@ impl Linked {
         self.store.reserve(n)
     }
 
-    /// The same derivations in memory of their own, with no room for more.
+    /// Copies the derivations into memory of their own, with no room for more.
     pub(crate) fn copy(&self) -> Result<Linked, AllocError>
         ensures { IfOk result (λ copy. copy ≡ record self.now { spare = 0 }) }
     {
@@ -153,7 +153,7 @@ impl Linked {
         })
     }
 
-    /// Whether some memory derivation of a protection domain leads to a frame.
+    /// Whether some memory derivation of the protection domain `pd` leads to `frame`.
     pub(crate) fn leads_to(&self, pd: u32, frame: u32) -> bool
         requires { All IsPlaced self.now.list }
         ensures { result ≡ list_any (leads_to pd frame) self.now.list }
@@ -161,21 +161,21 @@ impl Linked {
         self.store.leads_to(pd, frame)
     }
 
-    /// The derivation of least id at or after the given one.
+    /// The derivation of least id at or after `id`.
     pub(crate) fn from_id(&self, id: u32) -> Option<Derivation>
         ensures { result ≡ find (is_from id) self.now.list }
     {
         Some(self.store.from_id(id)?.derivation)
     }
 
-    /// The derivation of an id.
+    /// The derivation `id`.
     pub(crate) fn get(&self, id: u32) -> Option<Derivation>
         ensures { result ≡ with_id self.now.list id }
     {
         Some(self.store.get(id)?.derivation)
     }
 
-    /// The newest child of a derivation; nothing where that isn't there.
+    /// The newest child of the derivation `id`; nothing where that isn't there.
     pub(crate) fn newest(&self, id: u32) -> Option<u32>
         ensures found { IsSome (with_id self.now.list id) → result ≡ option_map id_of (newest_child self.now.list id) }
         ensures absent { with_id self.now.list id ≡ None → result ≡ None }
@@ -183,14 +183,14 @@ impl Linked {
         self.store.get(id)?.newest
     }
 
-    /// The next older child of a derivation's parent; nothing where that isn't there.
+    /// The next older child of the parent of the derivation `id`; nothing where that isn't there.
     pub(crate) fn older(&self, id: u32) -> Option<u32>
         ensures { IfSome (with_id self.now.list id) (λ d. result ≡ option_map id_of (older_child self.now.list d)) }
     {
         self.store.get(id)?.older
     }
 
-    /// The newest child of what is a parent, if there is one.
+    /// The newest child of `parent`, if there is one.
     fn newest_of(&self, parent: Option<u32>) -> Option<u32>
         ensures none { parent ≡ None → result ≡ None }
         ensures some { (p : ℕ) → parent ≡ Some p → IsSome (with_id self.now.list p) → result ≡ option_map id_of (newest_child self.now.list p) }
@@ -201,7 +201,7 @@ impl Linked {
         }
     }
 
-    /// Adds a derivation of a greater id than all, whose parent is there and which has no child.
+    /// Adds `x`, a derivation of a greater id than all, whose parent is there and which has no child.
     pub(crate) fn push(&mut self, x: Derivation)
         requires room { 0 < self.old.spare }
         requires last { AllByRecursion (λ a. a.id < x.id) self.old.list }
@@ -220,7 +220,7 @@ impl Linked {
         });
     }
 
-    /// Takes away the derivation of an id, if there is one.
+    /// Takes away the derivation `id`, if there is one.
     pub(crate) fn remove(&mut self, id: u32)
         ensures { self.new ≡ record self.old { list = filter (λ d. not (d.id == id)) self.old.list } }
     {

@@ -24,8 +24,7 @@ pub struct Entry {
     pub node: Node,
 }
 
-/// How far the way from a derivation from newest child to newest child was gone, and which id was the
-/// next one then.
+/// How far the way from a derivation, from newest child to newest child, was followed, and which id was next then.
 #[derive(Clone, Copy)]
 pub struct Trail {
     pub from: u32,

@@ -15,9 +15,8 @@ use nova_range::{Index, Kind, Range, Rights};
 use std::alloc::{AllocError, Global};
 use std::marker::Model;
 
-/// The delegations: derivations by rising id with links between parents and children, the id of the next one, and for each protection domain
-/// an index of its memory and one of its objects. Room for more is reserved before they are added, for
-/// each domain by itself.
+/// The delegations: derivations by rising id, with links between parents and children, and the next id. Each protection domain has an index of its
+/// memory and one of its objects. Room for more is reserved before they are added, for each domain by itself.
 #[derive(Drop)]
 pub struct Nodes<I: Index> {
     list: Linked,
@@ -43,7 +42,7 @@ impl<I: Index> Model for Nodes<I> {
     ghost invariant = { λ n. IsSound (record { list = n.list.list; next = n.next }) × (IsIndexed n.spaces n.list.list × ((total_room n.spaces ≤ n.spare) × ((n.spare ≤ n.list.spare) × IsTrail (record { list = n.list.list; next = n.next }) n.trail))) };
 }
 
-/// The id before the end of a way: of the parent, or of the beginning where that is the end.
+/// The id before the end of the way from `from` to `leaf`: of the parent, or of the beginning where that is the end.
 fn step_back(from: &Derivation, leaf: &Derivation) -> u32
     ensures { result ≡ step_back from.now leaf.now }
 {
@@ -57,7 +56,7 @@ fn step_back(from: &Derivation, leaf: &Derivation) -> u32
 }
 
 impl<I: Index> Nodes<I> {
-    /// No derivations, and room for none. The first one that is added has id 0.
+    /// No derivations, and room for none. The first that is added has id 0.
     pub fn new(alloc: Global) -> Nodes<I>
         ensures none { result.delegations ≡ record { list = []; next = 0 } }
         ensures room { (pd : ℕ) → room result pd ≡ 0 }
@@ -75,8 +74,7 @@ impl<I: Index> Nodes<I> {
         }
     }
 
-    /// The same derivations in memory of their own, and the same domains with spaces, with no room for
-    /// more.
+    /// Copies the derivations into memory of their own, and the domains with spaces, with no room for more.
     pub fn copy(&self) -> Result<Nodes<I>, AllocError>
         ensures same { IfOk result (λ copy. copy.delegations ≡ self.now.delegations) }
         ensures spaces { IfOk result (λ copy. (pd : ℕ) → HasSpaces self.now pd → HasSpaces copy pd) }
@@ -92,7 +90,7 @@ impl<I: Index> Nodes<I> {
         })
     }
 
-    /// Whether some memory derivation of a protection domain leads to a frame.
+    /// Whether some memory derivation of the protection domain `pd` leads to `frame`.
     pub fn leads_to(&self, pd: u32, frame: u32) -> bool
         ensures { result ≡ list_any (leads_to pd frame) self.now.delegations.list }
     {
@@ -107,7 +105,7 @@ impl<I: Index> Nodes<I> {
         self.next
     }
 
-    /// Makes the two spaces of a protection domain, with no derivations; those that are there stay.
+    /// Makes the two spaces of the protection domain `pd`, with no derivations; those that are there stay.
     pub fn add_pd(&mut self, pd: u32) -> Result<(), AllocError>
         ensures there { OnOk result (HasSpaces self.new pd) }
         ensures kept { self.new.delegations ≡ self.old.delegations }
@@ -117,10 +115,10 @@ impl<I: Index> Nodes<I> {
         self.spaces.add_pd(pd)
     }
 
-    /// Makes room for `n` more derivations of a protection domain, counted from those that are there,
-    /// and its spaces where they are wanted for that. Room that was made before stays, for each domain
-    /// its own, and where it is enough, this succeeds. Where memory runs out, no derivation and no room
-    /// has changed; the spaces may have been made.
+    /// Makes room for `n` more derivations of the protection domain `pd`, counted from those that are there,
+    /// and its spaces where they are wanted for that. Room that was made before stays, for each domain its own,
+    /// and where it is enough, this succeeds. Where memory runs out, no derivation and no room has changed; the
+    /// spaces may have been made.
     pub fn reserve(&mut self, pd: u32, n: usize) -> Result<(), AllocError>
         ensures kept { self.new.delegations ≡ self.old.delegations }
         ensures ok { OnOk result (n ≤ room self.new pd) }
@@ -139,8 +137,8 @@ impl<I: Index> Nodes<I> {
         Ok(())
     }
 
-    /// Makes room for `n` more derivations of a protection domain than there was room for. Where memory runs
-    /// out, no derivation and no room has changed; the spaces may have been made.
+    /// Makes room for `n` more derivations of the protection domain `pd` than there was room for. Where memory
+    /// runs out, no derivation and no room has changed; the spaces may have been made.
     pub fn reserve_more(&mut self, pd: u32, n: usize) -> Result<(), AllocError>
         ensures kept { self.new.delegations ≡ self.old.delegations }
         ensures ok { OnOk result (room self.old pd + n ≤ room self.new pd) }
@@ -151,8 +149,8 @@ impl<I: Index> Nodes<I> {
         self.reserve(pd, room)
     }
 
-    /// Adds a derivation in room that was made for its domain, and answers its id. With the next id it
-    /// fits into the forest: it lies within its parent, and shares no place with another of its space.
+    /// Adds a derivation to `pd` in room that was made for it, and answers its id. With the next id it fits
+    /// into the forest: it lies within its parent, and shares no place with another of its space.
     fn add(
         &mut self,
         parent: Option<u32>,
@@ -188,7 +186,7 @@ impl<I: Index> Nodes<I> {
         id
     }
 
-    /// Adds a derivation with no parent in room that was made, and answers its id. It fits into the
+    /// Adds a derivation with no parent to `pd`, in room that was made, and answers its id. It fits into the
     /// forest: it is aligned, and shares no place with another of its space.
     pub fn root(&mut self, pd: u32, range: Range, rights: Rights, target: u32) -> u32
         requires room { 0 < room self.old pd }
@@ -204,8 +202,8 @@ impl<I: Index> Nodes<I> {
         self.add(None, pd, range, rights, target)
     }
 
-    /// Adds a derivation with a parent in room that was made, and answers its id. It fits into the
-    /// forest: it is aligned, lies within its parent, and shares no place with another of its space.
+    /// Adds a child of the derivation `parent` to `pd`, in room that was made, and answers its id. It fits into
+    /// the forest: it is aligned, lies within its parent, and shares no place with another of its space.
     pub fn child(&mut self, parent: u32, pd: u32, range: Range, rights: Rights, target: u32) -> u32
         requires room { 0 < room self.old pd }
         requires next { self.old.delegations.next < 2 ^ 32 - 1 }
@@ -220,8 +218,7 @@ impl<I: Index> Nodes<I> {
         self.add(Some(parent), pd, range, rights, target)
     }
 
-    /// Takes away the derivation of an id, which is no other's parent. Where no derivation has the id,
-    /// nothing changes.
+    /// Takes away the derivation `id`, which is no other's parent. Where no derivation has the id, nothing changes.
     pub fn remove_leaf(&mut self, id: u32)
         requires childless { IsChildless self.old.delegations.list id }
         ensures removed { self.new.delegations ≡ without self.old.delegations id }
@@ -232,7 +229,7 @@ impl<I: Index> Nodes<I> {
         self.list.remove(id);
     }
 
-    /// The derivation of an id, or nothing where none has it.
+    /// The derivation `id`, or nothing where none has it.
     pub fn get(&self, id: u32) -> Option<Derivation>
         ensures found { result ≡ with_id self.now.delegations.list id }
         ensures placed { IfSome result IsPlaced }
@@ -241,7 +238,7 @@ impl<I: Index> Nodes<I> {
         self.list.get(id)
     }
 
-    /// The derivation of least id at or after the given one, or nothing where there is none.
+    /// The derivation of least id at or after `id`, or nothing where there is none.
     pub fn from_id(&self, id: u32) -> Option<Derivation>
         ensures found { result ≡ from_id self.now.delegations.list id }
         ensures placed { IfSome result IsPlaced }
@@ -250,8 +247,8 @@ impl<I: Index> Nodes<I> {
         self.list.from_id(id)
     }
 
-    /// The derivation that covers a place of a protection domain's space, or nothing where none does.
-    /// The search may be quicker the next time; what is kept stays.
+    /// The derivation that covers `place` of the space `kind` of `pd`, or nothing where none does. The search
+    /// may be quicker the next time; what is kept stays.
     pub fn at(&mut self, pd: u32, kind: Kind, place: u32) -> Option<Derivation>
         ensures found { result ≡ find (covers kind pd place) self.new.delegations.list }
         ensures kept { self.new ≡ self.old }
@@ -262,8 +259,7 @@ impl<I: Index> Nodes<I> {
         self.get(id)
     }
 
-    /// The derivation that covers a place of a protection domain's space, or nothing where none does,
-    /// for callers that only look.
+    /// The derivation that covers `place` of the space `kind` of `pd`, or nothing where none does, for callers that only look.
     pub fn covering(&self, pd: u32, kind: Kind, place: u32) -> Option<Derivation>
         ensures found { result ≡ find (covers kind pd place) self.now.delegations.list }
         ensures placed { IfSome result IsPlaced }
@@ -276,8 +272,7 @@ impl<I: Index> Nodes<I> {
         self.get(id)
     }
 
-    /// Of a protection domain's space the derivation of least base among those that hold some place at
-    /// or after the given one, or nothing where there is none.
+    /// The derivation of least base in the space `kind` of `pd` that holds some place at or after `place`, or nothing where there is none.
     pub fn first_from(&self, pd: u32, kind: Kind, place: u32) -> Option<Derivation>
         ensures found { result ≡ first_from self.now.delegations.list kind pd place }
         ensures placed { IfSome result IsPlaced }
@@ -287,7 +282,7 @@ impl<I: Index> Nodes<I> {
         self.get(id)
     }
 
-    /// The child of a derivation that has the greatest id, or nothing where it has no child.
+    /// The child of greatest id of the derivation `id`, or nothing where it has no child.
     pub fn newest_child(&self, id: u32) -> Option<u32>
         ensures found { result ≡ option_map id_of (newest_child self.now.delegations.list id) }
         ensures sound { IsSound self.now.delegations }
@@ -295,7 +290,7 @@ impl<I: Index> Nodes<I> {
         self.list.newest(id)
     }
 
-    /// How far the way from a derivation from newest child to newest child is known.
+    /// How far the way from `from`, from newest child to newest child, is known.
     fn resume(&self, from: &Derivation) -> Derivation
         requires there { Contains self.now.delegations.list from.now }
         ensures way { IsOnWay self.now.delegations.list from.now result }
@@ -311,8 +306,7 @@ impl<I: Index> Nodes<I> {
         }
     }
 
-    /// The derivation at the end of the way from one that is there from newest child to newest child, for
-    /// callers that only look.
+    /// The derivation at the end of the way from `from`, which is there, from newest child to newest child, for callers that only look.
     pub fn leaf_of(&self, from: Derivation) -> Derivation
         requires { Contains self.now.delegations.list from }
         ensures leaf { result ≡ leaf_by self.now.delegations.next self.now.delegations.list from }
@@ -329,9 +323,9 @@ impl<I: Index> Nodes<I> {
         at
     }
 
-    /// The derivation at the end of the way from one that is there from newest child to newest child. The
-    /// search begins one before where the last one from there ended, if none has joined since; what is
-    /// kept stays.
+    /// The derivation at the end of the way from `from`, which is there, from newest child to newest child. The
+    /// search begins one derivation before where the last search from there ended, if none has joined since;
+    /// what is kept stays.
     pub fn leaf_below(&mut self, from: Derivation) -> Derivation
         requires { Contains self.old.delegations.list from }
         ensures leaf { result ≡ leaf_by self.old.delegations.next self.old.delegations.list from }
@@ -347,8 +341,8 @@ impl<I: Index> Nodes<I> {
         leaf
     }
 
-    /// Of the children of a derivation's parent the one of greatest id below its own, or nothing where
-    /// it has no parent or none is older. The derivation is there.
+    /// The next older sibling of the derivation `id`, or nothing where it has no parent or none is older. It is
+    /// that of greatest id below its own of its parent's children. The derivation is there.
     pub fn older(&self, id: u32) -> Option<u32>
         requires there { IsSome (with_id self.now.delegations.list id) }
         ensures found { IfSome (with_id self.now.delegations.list id) (λ d. result ≡ option_map id_of (older_child self.now.delegations.list d)) }
@@ -357,7 +351,7 @@ impl<I: Index> Nodes<I> {
         self.list.older(id)
     }
 
-    /// The parent of a derivation, which is there; nothing where it has none.
+    /// The parent of the derivation `id`, which is there; nothing where it has none.
     pub fn parent(&self, id: u32) -> Option<u32>
         requires there { IsSome (with_id self.now.delegations.list id) }
         ensures found { IfSome (with_id self.now.delegations.list id) (λ d. result ≡ option_map id_of (parent_of self.now.delegations.list d)) }

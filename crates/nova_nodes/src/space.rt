@@ -46,7 +46,7 @@ impl<I: Index> Space<I> {
         self.room
     }
 
-    /// The key of the range that has a place, or nothing where none has it.
+    /// The key of the range that has `place`, or nothing where none has it.
     pub(crate) fn find(&mut self, kind: Kind, place: u32) -> Option<u32>
         ensures key { result ≡ key_at place (entries_of kind self.old) }
         ensures kept { self.new ≡ self.old }
@@ -58,7 +58,7 @@ impl<I: Index> Space<I> {
         }
     }
 
-    /// The first range that has a place at or after the given one, with its key.
+    /// The first range that has a place at or after `place`, with its key.
     pub(crate) fn first_from(&self, kind: Kind, place: u32) -> Option<(Range, u32)>
         ensures first { result ≡ range_from place (entries_of kind self.now) }
         ensures sound { IsSorted (entries_of kind self.now) }
@@ -69,7 +69,7 @@ impl<I: Index> Space<I> {
         }
     }
 
-    /// The same ranges in memory of their own, with no room for more.
+    /// Copies the ranges into memory of their own, with no room for more.
     pub(crate) fn copy(&self) -> Result<Space<I>, AllocError>
         ensures { IfOk result (λ copy. copy ≡ record self.now { room = 0 }) }
     {
@@ -89,7 +89,7 @@ impl<I: Index> Space<I> {
         Ok(())
     }
 
-    /// Adds a range that shares no place with those of its space.
+    /// Adds `range`, which shares no place with those of its space.
     pub(crate) fn insert(&mut self, range: Range, key: u32)
         requires room { 0 < self.old.room }
         requires range { IsRange range }
@@ -103,7 +103,7 @@ impl<I: Index> Space<I> {
         self.room -= 1;
     }
 
-    /// Takes away the range of a base, if there is one.
+    /// Takes away the range of `base`, if there is one.
     pub(crate) fn remove(&mut self, kind: Kind, base: u32)
         ensures { self.new ≡ with_entries kind (taken_out base (entries_of kind self.old)) self.old }
     {

@@ -26,7 +26,7 @@ impl<I: Index> Model for Spaces<I> {
     ghost view = { λ s. s.items.items };
 }
 
-/// The key of the range of a space that has a place, or nothing where none has it.
+/// The key of the range of a space that has `place`, or nothing where none has it.
 fn find_in<I: Index>(space: &mut Option<Space<I>>, kind: Kind, place: u32) -> Option<u32>
     ensures key { result ≡ key_at place (entries_in kind space.old) }
     ensures kept { space.new ≡ space.old }
@@ -38,7 +38,7 @@ fn find_in<I: Index>(space: &mut Option<Space<I>>, kind: Kind, place: u32) -> Op
     }
 }
 
-/// The first range of a space that has a place at or after the given one, with its key.
+/// The first range of a space that has a place at or after `place`, with its key.
 fn first_in<I: Index>(space: &Option<Space<I>>, kind: Kind, place: u32) -> Option<(Range, u32)>
     ensures first { result ≡ range_from place (entries_in kind space.now) }
     ensures sound { IsSorted (entries_in kind space.now) }
@@ -49,7 +49,7 @@ fn first_in<I: Index>(space: &Option<Space<I>>, kind: Kind, place: u32) -> Optio
     }
 }
 
-/// For how many more ranges there is room in a space: for none where it isn't there.
+/// For how many more ranges there is room in `space`: for none where it isn't there.
 fn room_in<I: Index>(space: &Option<Space<I>>) -> usize
     ensures { result ≡ room_in space.now }
 {
@@ -59,7 +59,7 @@ fn room_in<I: Index>(space: &Option<Space<I>>) -> usize
     }
 }
 
-/// The same space in memory of its own, with no room for more; nothing where it isn't there.
+/// Copies `space` into memory of its own, with no room for more; nothing where it isn't there.
 fn copy_of<I: Index>(space: &Option<Space<I>>) -> Result<Option<Space<I>>, AllocError>
     ensures { IfOk result (λ copy. copy ≡ roomless space.now) }
 {
@@ -79,7 +79,7 @@ fn reserve_in<I: Index>(space: &mut Option<Space<I>>, n: usize) -> Result<(), Al
     space.reserve(n)
 }
 
-/// Adds a range to a space that is there, where it shares no place with another.
+/// Adds `range` to a space that is there, where it shares no place with another.
 fn insert_in<I: Index>(space: &mut Option<Space<I>>, range: Range, key: u32)
     requires room { IfSome space.old (λ s. 0 < s.room) }
     requires there { IsSome space.old }
@@ -91,7 +91,7 @@ fn insert_in<I: Index>(space: &mut Option<Space<I>>, range: Range, key: u32)
     space.insert(range, key);
 }
 
-/// Takes away the range of a base, if there is one.
+/// Takes away the range of `base`, if there is one.
 fn remove_in<I: Index>(space: &mut Option<Space<I>>, kind: Kind, base: u32)
     ensures { space.new ≡ option_map (λ s. with_entries kind (taken_out base (entries_of kind s)) s) space.old }
 {
@@ -111,7 +111,7 @@ impl<I: Index> Spaces<I> {
         }
     }
 
-    /// The same spaces in memory of their own, with no room for more.
+    /// Copies the spaces into memory of their own, with no room for more.
     pub(crate) fn copy(&self) -> Result<Spaces<I>, AllocError>
         ensures { IfOk result (λ copy. copy ≡ map roomless self.now) }
     {
@@ -125,7 +125,7 @@ impl<I: Index> Spaces<I> {
         })
     }
 
-    /// The key of the range of a domain's space that has a place, or nothing where none has it.
+    /// The key of the range of the space `kind` of the domain `pd` that has `place`, or nothing where none has it.
     pub(crate) fn find(&mut self, pd: u32, kind: Kind, place: u32) -> Option<u32>
         ensures key { result ≡ key_at place (entries_at self.old pd kind) }
         ensures kept { self.new ≡ self.old }
@@ -136,7 +136,7 @@ impl<I: Index> Spaces<I> {
         find_in(&mut self.items[pd as usize], kind, place)
     }
 
-    /// The first range of a domain's space that has a place at or after the given one, with its key.
+    /// The first range of the space `kind` of the domain `pd` that has a place at or after `place`, with its key.
     pub(crate) fn first_from(&self, pd: u32, kind: Kind, place: u32) -> Option<(Range, u32)>
         ensures first { result ≡ range_from place (entries_at self.now pd kind) }
         ensures sound { IsSorted (entries_at self.now pd kind) }
@@ -147,7 +147,7 @@ impl<I: Index> Spaces<I> {
         first_in(&self.items[pd as usize], kind, place)
     }
 
-    /// For how many more ranges there is room in each space of a domain.
+    /// For how many more ranges there is room in each space of the domain `pd`.
     pub(crate) fn room(&self, pd: u32) -> usize
         ensures { result ≡ room_at self.now pd }
     {
@@ -157,7 +157,7 @@ impl<I: Index> Spaces<I> {
         room_in(&self.items[pd as usize])
     }
 
-    /// Makes the table long enough for a domain. Where it refuses nothing has changed.
+    /// Makes the table long enough for the domain `pd`. Where it refuses nothing has changed.
     #[tactic(auto, using(crate::proofs::Tables::entries_more, crate::proofs::Tables::rooms_more))]
     fn lengthen(&mut self, pd: u32) -> Result<(), AllocError>
         ensures entries { (other : ℕ) (kind : Kind) → entries_at self.new other kind ≡ entries_at self.old other kind }
@@ -173,8 +173,7 @@ impl<I: Index> Spaces<I> {
         Ok(())
     }
 
-    /// Makes the spaces of a domain, with no ranges; those that are there stay. Where it refuses
-    /// nothing has changed.
+    /// Makes the spaces of the domain `pd`, with no ranges; those that are there stay. Where it refuses nothing has changed.
     pub(crate) fn add_pd(&mut self, pd: u32) -> Result<(), AllocError>
         ensures entries { (other : ℕ) (kind : Kind) → entries_at self.new other kind ≡ entries_at self.old other kind }
         ensures rooms { (other : ℕ) → room_at self.new other ≡ room_at self.old other }
@@ -189,8 +188,8 @@ impl<I: Index> Spaces<I> {
         Ok(())
     }
 
-    /// Makes room for `n` more ranges in each space of a domain, and the spaces where they are not
-    /// there yet. Where it refuses room has not changed.
+    /// Makes room for `n` more ranges in each space of the domain `pd`, and the spaces where they are not there
+    /// yet. Where it refuses room has not changed.
     pub(crate) fn reserve(&mut self, pd: u32, n: usize) -> Result<(), AllocError>
         ensures entries { (other : ℕ) (kind : Kind) → entries_at self.new other kind ≡ entries_at self.old other kind }
         ensures others { (other : ℕ) → ¬ (other ≡ pd) → room_at self.new other ≡ room_at self.old other }
@@ -201,7 +200,7 @@ impl<I: Index> Spaces<I> {
         reserve_in(&mut self.items[pd as usize], n)
     }
 
-    /// Adds a range to a domain's space, in room that was made. It shares no place with those there.
+    /// Adds `range` to a domain's space, in room that was made. It shares no place with those there.
     pub(crate) fn insert(&mut self, pd: u32, range: Range, key: u32)
         requires room { 0 < room_at self.old pd }
         requires range { IsRange range }
@@ -214,7 +213,7 @@ impl<I: Index> Spaces<I> {
         insert_in(&mut self.items[pd as usize], range, key);
     }
 
-    /// Takes away the range of a base of a domain's space, if there is one.
+    /// Takes away the range of `base` of a domain's space, if there is one.
     pub(crate) fn remove(&mut self, pd: u32, kind: Kind, base: u32)
         ensures here { entries_at self.new pd kind ≡ taken_out base (entries_at self.old pd kind) }
         ensures others { (other : ℕ) (space : Kind) → is_of pd kind other space ≡ false → entries_at self.new other space ≡ entries_at self.old other space }

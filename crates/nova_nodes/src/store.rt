@@ -36,7 +36,7 @@ impl Model for Store {
     ghost invariant = { λ s. AreInOrder s.places.items × ((length (nodes_at s.slab s.places.items) + s.gone ≡ length s.places.items) × ((vec_len s.places + s.spare ≤ vec_capacity s.places) × HasRoomFor s.slab s.spare)) };
 }
 
-/// At which place the first id from one on stands.
+/// At which index of `places` the first id from `id` on stands.
 fn point(places: &[Place], id: u32) -> usize
     requires { AreInOrder places.now }
     ensures bound { result ≤ length places.now }
@@ -47,7 +47,7 @@ fn point(places: &[Place], id: u32) -> usize
     places.partition_point(|p| p.id < id)
 }
 
-/// The place of the first id from one on.
+/// The first of `places` whose id is at or after `id`.
 fn first_place(places: &[Place], id: u32) -> Option<Place>
     requires { AreInOrder places.now }
     ensures { result ≡ find (is_after place_id id) places.now }
@@ -55,7 +55,7 @@ fn first_place(places: &[Place], id: u32) -> Option<Place>
     places.get(point(places, id)).copied()
 }
 
-/// The node at a place, if it is still there.
+/// The node at `place`, if it is still there.
 fn node_at(slab: &Slab<Node>, place: &Place) -> Option<Node>
     ensures { result ≡ node_at slab.now place.now }
 {
@@ -67,7 +67,7 @@ fn node_at(slab: &Slab<Node>, place: &Place) -> Option<Node>
     }
 }
 
-/// The node of an id with its place, if there is one.
+/// The node of `id` with its place, if there is one.
 fn entry_of(slab: &Slab<Node>, places: &[Place], id: u32) -> Option<Entry>
     requires { AreInOrder places.now }
     ensures node { option_map node_of result ≡ find (is_number node_id id) (nodes_at slab.now places.now) }
@@ -84,7 +84,7 @@ fn entry_of(slab: &Slab<Node>, places: &[Place], id: u32) -> Option<Entry>
     }
 }
 
-/// The first node at some places.
+/// The first node that is at one of `places`.
 fn first_node(slab: &Slab<Node>, places: &[Place]) -> Option<Node>
     ensures { result ≡ slice_get (nodes_at slab.now places.now) 0 }
 {
@@ -96,7 +96,7 @@ fn first_node(slab: &Slab<Node>, places: &[Place]) -> Option<Node>
     None
 }
 
-/// Writes a node at a key that has one.
+/// Writes `node` at `key`, which has one.
 fn write(slab: &mut Slab<Node>, key: usize, node: Node)
     requires { ContainsKey slab.old key }
     ensures updates { Updates slab.old slab.new key (Some node) }
@@ -107,7 +107,7 @@ fn write(slab: &mut Slab<Node>, key: usize, node: Node)
     slab.insert_reserved(node);
 }
 
-/// Whether a derivation is of the memory of a protection domain, and leads to a frame.
+/// Whether the derivation `d` is of the memory of the protection domain `pd`, and leads to `frame`.
 fn leads_to(d: &Derivation, pd: u32, frame: u32) -> bool
     requires { d.now.order ≤ 20 }
     ensures { result ≡ leads_to pd frame d.now }
@@ -118,7 +118,7 @@ fn leads_to(d: &Derivation, pd: u32, frame: u32) -> bool
         && frame - d.target < 1 << d.order
 }
 
-/// Whether the derivation of the node at a place leads to a frame.
+/// Whether the derivation of the node at `place` leads to `frame`.
 fn leads_at(slab: &Slab<Node>, place: &Place, pd: u32, frame: u32) -> bool
     requires { IsSmall (node_at slab.now place.now) }
     ensures { result ≡ passes_in (leads_to pd frame) (node_at slab.now place.now) }
@@ -129,7 +129,7 @@ fn leads_at(slab: &Slab<Node>, place: &Place, pd: u32, frame: u32) -> bool
     }
 }
 
-/// Whether the derivation of some node at places leads to a frame.
+/// Whether the derivation of some node at places leads to `frame`.
 fn some_leads(slab: &Slab<Node>, places: &[Place], pd: u32, frame: u32) -> bool
     requires { All (λ p. IsSmall (node_at slab.now p)) places.now }
     ensures { result ≡ list_any (λ p. passes_in (leads_to pd frame) (node_at slab.now p)) places.now }
@@ -155,7 +155,7 @@ impl Store {
         }
     }
 
-    /// The same nodes in memory of their own, with no room for more.
+    /// Copies the nodes into memory of their own, with no room for more.
     pub(crate) fn copy(&self, alloc: Global) -> Result<Store, AllocError>
         ensures { IfOk result (λ copy. copy ≡ record self.now { spare = 0 }) }
     {
@@ -183,7 +183,7 @@ impl Store {
         Ok(())
     }
 
-    /// Whether some memory derivation of a protection domain leads to a frame.
+    /// Whether some memory derivation of the protection domain `pd` leads to `frame`.
     pub(crate) fn leads_to(&self, pd: u32, frame: u32) -> bool
         requires { All IsPlaced (derivations self.now.nodes) }
         ensures { result ≡ list_any (leads_to pd frame) (derivations self.now.nodes) }
@@ -191,7 +191,7 @@ impl Store {
         some_leads(&self.slab, self.places.as_slice(), pd, frame)
     }
 
-    /// The node of least id at or after the given one.
+    /// The node of least id at or after `id`.
     pub(crate) fn from_id(&self, id: u32) -> Option<Node>
         ensures found { result ≡ find (is_after node_id id) self.now.nodes }
         ensures rising { AreRising self.now.nodes }
@@ -201,7 +201,7 @@ impl Store {
         first_node(&self.slab, &places[at..])
     }
 
-    /// The node of an id.
+    /// The node of `id`.
     pub(crate) fn get(&self, id: u32) -> Option<Node>
         ensures found { result ≡ find (is_number node_id id) self.now.nodes }
         ensures rising { AreRising self.now.nodes }
@@ -210,7 +210,7 @@ impl Store {
         Some(entry.node)
     }
 
-    /// Adds a node of a greater id than all, in room that was made.
+    /// Adds `node` of a greater id than all, in room that was made.
     pub(crate) fn push(&mut self, node: Node)
         requires room { 0 < self.old.spare }
         requires last { AllByRecursion (λ n. n.derivation.id < node.derivation.id) self.old.nodes }
@@ -226,7 +226,7 @@ impl Store {
         self.spare -= 1;
     }
 
-    /// Puts a node in the place of that of its id, if there is one.
+    /// Puts `node` in the place of that of its id, if there is one.
     pub(crate) fn set(&mut self, node: Node)
         ensures { self.new ≡ record self.old { nodes = map (put node) self.old.nodes } }
     {
@@ -248,7 +248,7 @@ impl Store {
         self.gone = 0;
     }
 
-    /// Takes away the node of an id, if there is one.
+    /// Takes away the node of `id`, if there is one.
     pub(crate) fn remove(&mut self, id: u32)
         ensures { self.new ≡ record self.old { nodes = filter (λ n. not (is_number node_id id n)) self.old.nodes } }
     {

@@ -46,8 +46,7 @@ impl Objects {
         Ok(())
     }
 
-    /// Adds an object in reserved room, and answers its number. There are fewer than 2^32 - 1 objects
-    /// before.
+    /// Adds `object` in reserved room, and answers its number. There are fewer than 2^32 - 1 objects before.
     pub fn add(&mut self, object: Object) -> u32
         requires room { 0 < self.old.spare }
         requires numbered { length self.old.items < 2 ^ 32 - 1 }
@@ -60,7 +59,7 @@ impl Objects {
         id
     }
 
-    /// The object of a number, or nothing where none has it.
+    /// The object of number `id`, or nothing where none has it.
     pub fn get(&self, id: u32) -> Option<&Object>
         ensures object { option_copied result ≡ slice_get self.now.items id }
         ensures there { IsSome result ↔ (id < length self.now.items) }
@@ -75,7 +74,7 @@ impl Objects {
         self.items.as_slice()
     }
 
-    /// The same objects in memory of their own, with no spare room.
+    /// Copies the objects into memory of their own, with no spare room.
     pub fn copy(&self) -> Result<Objects, AllocError>
         ensures { IfOk result (λ copy. copy ≡ record { items = self.now.items; spare = 0 }) }
     {

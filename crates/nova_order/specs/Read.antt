@@ -51,7 +51,7 @@ read_lines cpus most blocks (line ∷ next ∷ lines) =
 unfoldable pub order_of : List ℕ → ℕ → ℕ → Result (List Block) OrderFault
 order_of bytes cpus most = read_lines cpus most [] (slice_split is_line_feed bytes)
 
--- a fault is the one that is wanted. Want of memory may be answered instead of anything
+-- a fault is that which is wanted. Want of memory may be answered instead of anything
 abbrev pub IsFault : {A : Type 0} → Result A OrderFault → OrderFault → Type 0
 IsFault wanted (BadLine line) = wanted ≡ Err (BadLine line)
 IsFault wanted (BadCpu line) = wanted ≡ Err (BadCpu line)
@@ -65,7 +65,7 @@ abbrev pub Gives : {A B : Type 0} → (A → B) → Result B OrderFault → Resu
 Gives seen wanted (Ok found) = wanted ≡ Ok (seen found)
 Gives seen wanted (Err fault) = IsFault wanted fault
 
--- the order that was read is the one that is wanted
+-- the order that was read is that which is wanted
 abbrev pub IsRead : Result (List Block) OrderFault → Result BlockList OrderFault → Type 0
 IsRead wanted result = Gives (λ list. list.blocks) wanted result
 

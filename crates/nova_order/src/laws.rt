@@ -23,7 +23,7 @@ pub fn what_is_read_was_written()
         → IsTrue (is_within cpus most blocks) }
 {}
 
-/// Fewer than 2^64 turns have one order, and so one text: there is one, and no other has the same turns.
+/// Fewer than 2^64 turns have exactly one order, and so one text.
 pub fn turns_have_one_order()
     ensures there { (sequence : List ℕ) → length sequence < 2 ^ 64 → HasOrder sequence }
     ensures one { (a b : List Block) → IsOrder a → IsOrder b → turns a ≡ turns b → a ≡ b }
@@ -35,7 +35,7 @@ pub fn bounds_are_of_turns()
         → is_within cpus most blocks ≡ (list_all (λ cpu. nat_lt cpu cpus) (turns blocks) && nat_le (length (turns blocks)) most) }
 {}
 
-/// The text of an order of at most ten processors has at most four bytes for each turn that the order may have: a digit, a space, no more
+/// The text of an order of at most ten processors has at most four bytes for each turn that the order may have. Those are a digit, a space, no more
 /// digits than turns, and a line feed.
 pub fn a_text_has_four_bytes_a_turn()
     ensures { (cpus most : ℕ) (blocks : List Block) → cpus ≤ 10 → IsOrder blocks → IsTrue (is_within cpus most blocks)

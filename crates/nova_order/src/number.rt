@@ -6,21 +6,21 @@ ghost use Rattle.nova_order.specs.Text.{block_of};
 
 use crate::split::split_once;
 
-/// Whether all bytes are decimal digits.
+/// Whether all bytes of `text` are decimal digits.
 fn is_digits(text: &[u8]) -> bool
     ensures { result ≡ list_all (λ c. is_digit c 10) text.now }
 {
     text.iter().all(|&digit| char::from(digit).is_digit(10))
 }
 
-/// Whether a text is decimal digits without a leading zero, or `0`.
+/// Whether `text` is decimal digits without a leading zero, or `0`.
 fn is_canonical(text: &[u8]) -> bool
     ensures { result ≡ is_canonical text.now }
 {
     !text.is_empty() && is_digits(text) && (text.len() == 1 || text[0] != b'0')
 }
 
-/// The number below 2^64 that a text writes in decimal without a leading zero.
+/// The number below 2^64 that `text` writes in decimal without a leading zero.
 #[tactic(auto, unfolding(crate::specs::Numbers::number))]
 fn parse_number(text: &[u8]) -> Option<u64>
     ensures { result ≡ number text.now }
@@ -34,7 +34,7 @@ fn parse_number(text: &[u8]) -> Option<u64>
     }
 }
 
-/// The processor and the count of a line without its line feed. `None` comes exactly where it is not of the form.
+/// The processor and the count of `line`, which has no line feed. `None` comes exactly where it is not of the form.
 #[tactic(auto, unfolding(crate::specs::Text::block_of))]
 pub(crate) fn parse_line(line: &[u8]) -> Option<(u64, u64)>
     ensures { option_map (λ p. record { cpu = p.0; count = p.1 }) result ≡ block_of line.now }

@@ -39,7 +39,7 @@ impl Order {
         }
     }
 
-    /// Makes room for blocks, counted from those that are there. Room that was made before stays, and where it is enough, this
+    /// Makes room for `blocks` more blocks, counted from those that are there. Room that was made before stays, and where it is enough, this
     /// succeeds.
     pub fn reserve(&mut self, blocks: usize) -> Result<(), AllocError>
         ensures ok { OnOk result (self.new ≡ record self.old { spare = max self.old.spare blocks }) }
@@ -79,7 +79,7 @@ impl Order {
         self.blocks.last().copied()
     }
 
-    /// Whether the last block is of a processor.
+    /// Whether the last block is of the processor `cpu`.
     pub(crate) fn ends_with(&self, cpu: u32) -> bool
         ensures { result ≡ is_of (last_or None self.now.blocks) cpu }
     {
@@ -89,7 +89,7 @@ impl Order {
         }
     }
 
-    /// Adds turns to the last block.
+    /// Adds `count` turns to the last block.
     fn grow(&mut self, count: u64)
         requires fits { total self.old.blocks + count < 2 ^ 64 }
         ensures grown { self.new ≡ grown (last_or None self.old.blocks) count self.old }
@@ -101,7 +101,7 @@ impl Order {
         }
     }
 
-    /// Adds a block in reserved room.
+    /// Adds a block of `count` turns of `cpu` in reserved room.
     fn add(&mut self, cpu: u32, count: u64)
         requires room { 0 < self.old.spare }
         requires counted { 0 < count }
@@ -115,7 +115,7 @@ impl Order {
         self.sum += count;
     }
 
-    /// Adds turns of a processor after all others: to the last block where that is of the same processor, and else as a block in
+    /// Adds `count` turns of the processor `cpu` after all others, to the last block where that is of the same processor, and else as a block in
     /// reserved room. There is room for a block, and with these turns there are fewer than 2^64.
     pub fn push(&mut self, cpu: u32, count: u64)
         requires room { 0 < self.old.spare }
@@ -134,7 +134,7 @@ impl Order {
         }
     }
 
-    /// Makes room for a block and adds it. Few turns begin a block, so that this stays out of the code of each.
+    /// Makes room for a block of `count` turns of `cpu` and adds it. Few turns begin a block, so that this stays out of the code of each.
     #[inline(never)]
     fn start(&mut self, cpu: u32, count: u64) -> Result<(), AllocError>
         requires counted { 0 < count }
@@ -152,7 +152,7 @@ impl Order {
         Ok(())
     }
 
-    /// Adds turns of a processor after all others: to the last block where that is of the same processor, and else as a block for
+    /// Adds `count` turns of the processor `cpu` after all others, to the last block where that is of the same processor, and else as a block for
     /// which it makes room. With these turns there are fewer than 2^64. Memory can run out only where it adds a block.
     #[inline(always)]
     pub fn extend(&mut self, cpu: u32, count: u64) -> Result<(), AllocError>

@@ -20,7 +20,7 @@ impl Order {
         self.blocks().len() as u64 + 1
     }
 
-    /// The block of the line after those of the blocks, or the line's first fault.
+    /// The block of `line`, after those of the blocks, or the line's first fault.
     fn judge(&self, line: &[u8], cpus: u32, most: u64) -> Result<Block, OrderFault>
         ensures judged { result ≡ judged cpus most self.now.blocks (block_of line.now) }
         ensures other { IfOk result (λ b. is_of (last_or None self.now.blocks) b.cpu ≡ false) }
@@ -47,7 +47,7 @@ impl Order {
         }
     }
 
-    /// Adds the block of the line after those of the blocks.
+    /// Adds the block of `line` after those of the blocks.
     fn add_line(&mut self, line: &[u8], cpus: u32, most: u64) -> Result<(), OrderFault>
         ensures exact { Gives (λ done. self.new.blocks) (with_line cpus most self.old.blocks line.now) result }
         ensures memory { IfErr result (λ fault. fault ≡ Memory → IsOk (judged cpus most self.old.blocks (block_of line.now))) }
@@ -58,7 +58,7 @@ impl Order {
         Ok(())
     }
 
-    /// Reads the text of an order of processors below `cpus` and of at most `most` turns.
+    /// Reads `bytes` as the text of an order of processors below `cpus` and of at most `most` turns.
     ///
     /// A fault other than `Memory` comes exactly where the text is none, and names the first line at fault with its first fault.
     /// `Memory` comes where memory is refused, and only of a text that begins with the line of a block.

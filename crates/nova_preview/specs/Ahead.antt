@@ -1,4 +1,4 @@
--- What is found out of a turn by looking alone.
+-- What is found out of a turn without changing anything.
 use Rattle.std.specs.Prelude.{◌≡◌, ℕ, ◌&&◌, Bool, nat_lt, List, length, Option, Some, None, option_and_then, if◌then◌else◌}
 use Rattle.std.specs.List.{list_any}
 use Rattle.rv_model.specs.Step.{Once}

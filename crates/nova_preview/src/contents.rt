@@ -9,7 +9,7 @@ use nova_memory::Reach;
 use nova_model::Derivation;
 use std::alloc::{AllocError, Global};
 
-/// How many RAM frames there are of `2^order` frames from one on.
+/// How many RAM frames there are of the `2^order` frames from `frame` on.
 fn ram_frames(reach: &Reach, frame: u32, order: u8) -> u32
     requires { order ≤ 20 }
     ensures count { result ≡ length (take (2 ^ order) (drop frame reach.now.memory.ram)) }
@@ -19,7 +19,7 @@ fn ram_frames(reach: &Reach, frame: u32, order: u8) -> u32
     left.min(1 << order)
 }
 
-/// The bytes of the RAM frames of `2^order` frames from one on, one after another; a console has none.
+/// The bytes of the RAM frames of the `2^order` frames from `frame` on, one after another; a console has none.
 /// Memory can run out only where there are any.
 fn contents(alloc: Global, reach: &Reach, frame: u32, order: u8) -> Result<Bytes, AllocError>
     requires { order ≤ 20 }
@@ -33,7 +33,7 @@ fn contents(alloc: Global, reach: &Reach, frame: u32, order: u8) -> Result<Bytes
     Ok(Bytes::new(bytes))
 }
 
-/// The input of a derivation that is made, where it is memory of the protection domain: its map, with the
+/// The input that making `child` is for the protection domain `pd`, where it is its memory: its map, with the
 /// bytes of its RAM frames. Memory can run out only where there are such bytes.
 pub fn given_if(
     alloc: Global,

@@ -14,8 +14,8 @@ pub struct Ahead {
     pub write: Option<Write>,
 }
 
-/// The next instruction of an execution context of a protection domain, which is only looked at. One that
-/// raises makes no store.
+/// Looks at the next instruction of the execution context `ec` of the domain `pd`, from the registers `regs`, and changes nothing. An instruction
+/// that raises makes no store.
 pub fn next_instruction(reach: &Reach, ec: u32, pd: u32, is_thread: bool, regs: &Regs) -> Ahead
     ensures outcome { result.outcome ≡ outcome_of (one regs.now (space (space_for reach.now ec pd is_thread))) }
     ensures write { let seen = space_for reach.now ec pd is_thread in result.write ≡ write_by seen (one regs.now (space seen)) }

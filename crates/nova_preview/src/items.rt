@@ -15,7 +15,7 @@ use nova_memory::Reach;
 use nova_model::{Deed, Delivery, Derivation, ItemEnd, Job, Reason, Transfer};
 use nova_revoke::Running;
 
-/// The deed of a part of a derivation: a child is given, or the part is skipped.
+/// The deed of a part of the derivation `source`: `child` is given, or the part is skipped.
 fn parted(job: &Job, source: &Derivation, child: Result<Derivation, Reason>) -> Deed
     requires source { IsPlaced source.now }
     ensures deed { result ≡ parted job.now source.now child }
@@ -32,7 +32,7 @@ fn parted(job: &Job, source: &Derivation, child: Result<Derivation, Reason>) -> 
     }
 }
 
-/// The deed of the next part of a delegation, or what ends the item.
+/// The deed of the next part of the delegation `job`, or what ends the item.
 fn part_ahead(
     reach: &Reach,
     revokes: &[Running],
@@ -60,7 +60,7 @@ fn part_ahead(
     }
 }
 
-/// The next part of a delegation, or it is skipped as a whole.
+/// The next part of a delegation, `delivery`, or it is skipped as a whole.
 fn delegation_ahead(
     reach: &Reach,
     revokes: &[Running],
@@ -89,7 +89,7 @@ fn delegation_ahead(
     }
 }
 
-/// The next part of an item, by its flag, or what ends it.
+/// The next part of the item `delivery`, by its flag, or what ends it.
 fn item_ahead(reach: &Reach, revokes: &[Running], delivery: Delivery, transfer: Transfer) -> Deed
     requires item { transfer.item < 62 }
     ensures deed { (k : KernelState) → AreOf k reach.now revokes.now → result ≡ delivered k delivery transfer }
@@ -107,8 +107,8 @@ fn item_ahead(reach: &Reach, revokes: &[Running], delivery: Delivery, transfer: 
     finished(delivery, transfer.item, ItemEnd::Translated(answer), answer)
 }
 
-/// The deed of one whose present item this is, while these revokes run: the next part of the item, or what
-/// ends it. One without an item rests.
+/// The deed of an execution context whose present item is `delivery`, while `revokes` run: the next part of the
+/// item, or what ends it. Without an item it rests.
 pub fn next_deed(
     reach: &Reach,
     revokes: &[Running],

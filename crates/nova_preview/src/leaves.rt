@@ -9,7 +9,7 @@ use nova_memory::Reach;
 use nova_model::Deed;
 use nova_revoke::Revokes;
 
-/// The deed of an execution context that revokes: the next leaf is removed, or the revoke returns. The next search may be quicker; what is
+/// The deed of the execution context `ec`, which revokes: the next leaf is removed, or the revoke returns. The next search may be quicker; what is
 /// kept stays.
 pub fn leaf_deed(reach: &mut Reach, revokes: &Revokes, ec: u32) -> Deed
     requires there { IsSome (revoke_in ec revokes.now.list) }

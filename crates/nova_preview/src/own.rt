@@ -4,7 +4,7 @@ ghost use Rattle.nova_model.specs.Inputs.{only_if, own_input};
 use nova_guest::Input;
 use nova_model::Deed;
 
-/// The input that a deed of a virtual CPU's own is for it: it acts, its exit is sent, or it ends.
+/// The input that `deed`, a virtual CPU's own, is for it: it acts, its exit is sent, or it ends.
 pub fn own_input(deed: Deed) -> Option<Input>
     ensures { result ≡ own_input deed }
 {
@@ -16,7 +16,7 @@ pub fn own_input(deed: Deed) -> Option<Input>
     }
 }
 
-/// An input that is one only where the test holds.
+/// The input `input` where `test` holds, and else none.
 pub fn input_if(test: bool, input: Input) -> Option<Input>
     ensures { result ≡ only_if test input }
 {

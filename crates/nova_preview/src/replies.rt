@@ -11,34 +11,34 @@ use nova_utcb::Utcb;
 /// The bits of the groups of registers: pc, x1 to x15 and x16 to x31.
 const REGISTERS: u32 = 14;
 
-/// How many words of a message are told: pc, one that is 0, and x1 to x31.
+/// How many words of a message are told: pc, a word that is 0, and x1 to x31.
 const TOLD: usize = 33;
 
 /// The first of these words.
 const FIRST: usize = 7;
 
-/// The groups that word 4 of a message names.
+/// The groups that word 4 of `message` names.
 fn groups_in(message: &Utcb) -> Mtd
     ensures { result ≡ groups_in message.now }
 {
     Mtd::from_bits_retain(message.word(4))
 }
 
-/// The groups that a reply names, but for the qualifications.
+/// The groups that the reply `message` names, but for the qualifications.
 fn reply_groups(message: &Utcb) -> Mtd
     ensures { result ≡ reply_groups message.now }
 {
     Mtd::from_bits_retain(groups_in(message).bits() & REGISTERS)
 }
 
-/// A word of a group, or 0 where the group isn't named.
+/// `word` of `group`, or 0 where `groups` don't name it.
 fn named_word(groups: Mtd, group: Mtd, word: u32) -> u32
     ensures { result ≡ if names groups group then word else 0 }
 {
     if groups.contains(group) { word } else { 0 }
 }
 
-/// A word that a reply tells: 0 where its group isn't named, and word 8 is 0.
+/// Word `n` that a reply tells: 0 where its group isn't named, and word 8 is 0.
 fn reply_word(message: &Utcb, n: usize) -> u32
     requires { n < 128 }
     ensures word { result ≡ reply_word message.now n }
@@ -57,7 +57,7 @@ fn reply_word(message: &Utcb, n: usize) -> u32
     }
 }
 
-/// The words that a reply tells, in order.
+/// The words that the reply `message` tells, in order.
 fn reply_words(message: &Utcb) -> [u32; TOLD]
     ensures { result ≡ reply_words message.now }
 {
@@ -68,7 +68,7 @@ fn reply_words(message: &Utcb) -> [u32; TOLD]
     words
 }
 
-/// The input of a reply with this message, where the test holds.
+/// The input of a reply with `message`, where `test` holds, and else none.
 pub fn reply_if(test: bool, message: &Utcb) -> Option<Input>
     ensures { result ≡ only_if test (reply_of message.now) }
 {

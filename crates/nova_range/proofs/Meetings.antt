@@ -1,4 +1,4 @@
--- Where ranges share places, and where one has all places of another.
+-- Where ranges share places, and where a range has all places of another.
 use Rattle.std.proofs.Common.{◌<◌, ◌≤◌, ◌↔◌, IsTrue, ◌-◌, ◌^◌, max, inl, inr, arith}
 use Rattle.std.proofs.lemmas.Bool.{cases_lt}
 use Rattle.std.proofs.lemmas.Bool.Decides.{nat_tests}
@@ -31,7 +31,7 @@ within a b =
           grind (arith, nat_tests)),
     )
 
--- of two ranges that overlap the one of lesser order lies in the other
+-- of two ranges that overlap, the range of lesser order lies in the other
 nested_between : (a b : Range) → IsRange a → IsRange b → a.order ≤ b.order → a.base < end_of b → b.base < end_of a → (b.base ≤ a.base) × (end_of a ≤ end_of b)
 nested_between a b is_a is_b h first second =
     let coarse_base = coarse b.base a.order b.order h is_b.aligned in

@@ -81,7 +81,7 @@ type_again word not_zero not_two = kinds (type_in word == 1) refl where
 fields_again : (word : ℕ) → word < 2 ^ 32 → base_in word * 2 ^ 12 + order_in word * 2 ^ 7 + rights_in word * 2 ^ 2 + type_in word ≡ word
 fields_again word below = grind arith
 
--- what is read has a word, and it is the one that it was read from
+-- what is read has a word, and it is the word that it was read from
 record IsReading (word : ℕ) (x : Range × Rights) : Type 0 where
   found : fields_of word ≡ x
   some_type : type_in word ≡ 0 → ⊥

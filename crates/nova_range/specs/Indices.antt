@@ -15,7 +15,7 @@ with_range e = (e.range, e.key)
 abbrev pub has_place : ℕ → Entry → Bool
 has_place place e = nat_le e.range.base place && nat_lt place (end_of e.range)
 
--- the entry's range has a place at or after this one
+-- the entry's range has a place at or after `place`
 abbrev pub ends_after : ℕ → Entry → Bool
 ends_after place e = nat_lt place (end_of e.range)
 
@@ -26,7 +26,7 @@ has_base base e = e.range.base == base
 abbrev pub key_at : ℕ → List Entry → Option ℕ
 key_at place entries = option_map key_of (find (has_place place) entries)
 
--- the range, with its key, that is first among those that have a place at or after this one
+-- the range, with its key, that is first among those that have a place at or after `place`
 abbrev pub range_from : ℕ → List Entry → Option (Range × ℕ)
 range_from place entries = option_map with_range (find (ends_after place) entries)
 

@@ -14,8 +14,7 @@ pub struct Clamped {
     pub order: u8,
 }
 
-/// The base of the part of order `low` that a hotspot names in a range: bits `low` to `order - 1` of
-/// the base are taken from the hotspot.
+/// The base of the part of order `low` that a hotspot names in `range`: bits `low` to `order - 1` of the base are taken from the hotspot.
 fn part_base(range: Range, low: u8, hotspot: u32) -> u32
     requires range { IsRange range }
     requires part { low ≤ range.order }
@@ -24,8 +23,8 @@ fn part_base(range: Range, low: u8, hotspot: u32) -> u32
     range.base + hotspot % (1 << range.order) - hotspot % (1 << low)
 }
 
-/// Cuts a range and a window to the smaller of their orders. The part of the larger is the one that
-/// the hotspot lies in, counted modulo its size; the smaller stays. Kinds are not compared.
+/// Cuts `sent` and `window` to the smaller of their orders. The larger is cut to the part that `hotspot` lies
+/// in, counted modulo its size; the smaller stays. Kinds are not compared.
 pub fn clamp(sent: Range, window: Range, hotspot: u32) -> Clamped
     requires sent { IsRange sent }
     requires window { IsRange window }

@@ -28,20 +28,19 @@ pub trait Index: Sized + Drop {
     fn empty(alloc: Global) -> Self
         ensures none { entries result ≡ [] };
 
-    /// The key of the range that has a place, or nothing where none has it.
+    /// The key of the range that has `place`, or nothing where none has it.
     fn find(&mut self, place: u32) -> Option<u32>
         ensures key { result ≡ key_at place (entries self.old) }
         ensures kept { entries self.new ≡ entries self.old }
         ensures room { spare self.new ≡ spare self.old }
         ensures sound { IsSorted (entries self.new) };
 
-    /// Of the ranges that have some place at or after the given one the first, with its key; nothing
-    /// where there is none.
+    /// The first of the ranges that have some place at or after `place`, with its key; nothing where there is none.
     fn first_from(&self, place: u32) -> Option<(Range, u32)>
         ensures first { result ≡ range_from place (entries self.now) }
         ensures sound { IsSorted (entries self.now) };
 
-    /// The same ranges with their keys in memory of their own, in which there may be no room for more.
+    /// Copies the ranges with their keys into memory of their own, in which there may be no room for more.
     fn copy(&self) -> Result<Self, AllocError>
         ensures same { IfOk result (λ copy. entries copy ≡ entries self.now) };
 
@@ -52,8 +51,7 @@ pub trait Index: Sized + Drop {
         ensures err { OnErr result (spare self.new ≡ spare self.old) }
         ensures kept { entries self.new ≡ entries self.old };
 
-    /// Adds a range with its key, in room that was made. The range shares no place with those that
-    /// are there.
+    /// Adds `range` with its key, in room that was made. The range shares no place with those that are there.
     fn insert(&mut self, range: Range, key: u32)
         requires room { 0 < spare self.old }
         requires range { IsRange range }
@@ -61,8 +59,7 @@ pub trait Index: Sized + Drop {
         ensures added { entries self.new ≡ put_in (record { range = range; key = key }) (entries self.old) }
         ensures room { spare self.new ≡ spare self.old - 1 };
 
-    /// Takes away the range of a base and answers its key, or nothing where no range has that base:
-    /// then all stays. Room doesn't get less.
+    /// Takes away the range of `base` and answers its key, or nothing where no range has that base: then all stays. Room doesn't get less.
     fn remove(&mut self, base: u32) -> Option<u32>
         ensures key { result ≡ key_of_base base (entries self.old) }
         ensures removed { entries self.new ≡ taken_out base (entries self.old) }

@@ -16,8 +16,7 @@ pub fn ranges_meet_by_their_places()
     ensures inside { (a b : Range) → IsTrue (is_inside a b) ↔ IsWithin a b }
 {}
 
-/// Ranges end within 2^20 places, and of two ranges that overlap the one of lesser order lies inside
-/// the other.
+/// Ranges end within 2^20 places, and of two ranges that overlap, the range of lesser order lies inside the other.
 pub fn ranges_nest()
     ensures end { (r : Range) → IsRange r → end_of r ≤ 2 ^ 20 }
     ensures nested { (a b : Range) → IsRange a → IsRange b → a.order ≤ b.order →

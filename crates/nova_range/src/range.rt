@@ -17,7 +17,7 @@ pub struct Range {
     pub order: u8,
 }
 
-/// The first place after a range, at most 2^20.
+/// The first place after `range`, at most 2^20.
 fn end(range: Range) -> u32
     requires { IsRange range }
     ensures { result ≡ end_of range }
@@ -25,7 +25,7 @@ fn end(range: Range) -> u32
     range.base + (1 << range.order)
 }
 
-/// Whether two ranges share a place. Their kinds are not compared.
+/// Whether `a` and `b` share a place. Their kinds are not compared.
 pub fn overlap(a: Range, b: Range) -> bool
     requires first { IsRange a }
     requires second { IsRange b }

@@ -72,7 +72,7 @@ impl Rights {
     /// Lower a semaphore's counter.
     pub const DOWN: Rights = Rights(2);
 
-    /// All rights to a target.
+    /// All rights to `target`.
     pub fn all_to(target: Target) -> Rights
         ensures all { result ≡ all_rights target }
         ensures bits { IsRights result }

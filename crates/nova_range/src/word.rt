@@ -16,7 +16,7 @@ pub enum WordFault {
     BadBase,
 }
 
-/// The number in the `count` bits of a word from bit `low` on.
+/// The number in the `count` bits of `word` from bit `low` on.
 fn bits(word: u32, low: u32, count: u32) -> u32
     requires low { low < 32 }
     requires count { count < 32 }
@@ -25,8 +25,8 @@ fn bits(word: u32, low: u32, count: u32) -> u32
     (word >> low) % (1 << count)
 }
 
-/// Reads a range word: the base in bits 12 to 31, the order in bits 7 to 11, the rights in bits 2 to 6
-/// and the type in bits 0 and 1. A word of type 0 is null, whatever its other bits are.
+/// Reads the range word `word`. The base is in bits 12 to 31, the order in bits 7 to 11, the rights in bits 2
+/// to 6 and the type in bits 0 and 1. A word of type 0 is null, whatever its other bits are.
 pub fn read_word(word: u32) -> Result<Option<(Range, Rights)>, WordFault>
     ensures exact { result ≡ meaning_of word }
     ensures sound { IfOk result HasWord }
@@ -49,7 +49,7 @@ pub fn read_word(word: u32) -> Result<Option<(Range, Rights)>, WordFault>
     Ok(Some((Range { kind, base, order }, rights)))
 }
 
-/// The type of a range word: 1 for memory, 3 for objects.
+/// The type of a range word of `kind`: 1 for memory, 3 for objects.
 fn type_of(kind: Kind) -> u32
     ensures { result ≡ type_of kind }
 {
@@ -59,7 +59,7 @@ fn type_of(kind: Kind) -> u32
     }
 }
 
-/// The word of a range with rights below 32, or 0 for none.
+/// The word of `range`, with rights below 32, or 0 for none.
 pub fn word_of(range: Option<(Range, Rights)>) -> u32
     requires { HasWord range }
     ensures { result ≡ word_of range }

@@ -49,7 +49,7 @@ lines_entry n e es =
 pub next_of : (count i : ℕ) (e : Event) → i < count → replicate (count - i) e ≡ e ∷ replicate (count - (i + 1)) e
 next_of count i e more = let n : count - i ≡ suc (count - (i + 1)) = omega arith in ap (λ m. replicate m e) n
 
--- one line more of an event that comes so many times
+-- one line more of an event that comes `count` times
 pub line_more : (out : List ℕ) (place i count : ℕ) (e : Event) → i < count → is_silent e.kind ≡ false →
     out ++ lines_from (place + i + 1) (replicate (count - i) e) ≡ (out ++ event_line (place + i + 1, e)) ++ lines_from (place + (i + 1) + 1) (replicate (count - (i + 1)) e)
 line_more out place i count e more told =

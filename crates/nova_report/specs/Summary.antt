@@ -9,7 +9,7 @@ use Rattle.nova_report.specs.declared.bench.Counted.{Counted}
 use Rattle.nova_report.specs.declared.bench.Counted.TheVariants.{Children, Removals}
 use Rattle.nova_report.specs.Words.{line_feed}
 
--- events that a derivation was made as a child, and that one was removed
+-- events that a derivation was made as a child, and that a derivation was removed
 abbrev pub made_kind : EventKind → Bool
 made_kind Made = true
 made_kind other = false

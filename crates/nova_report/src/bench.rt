@@ -13,7 +13,7 @@ enum Counted {
     Removals,
 }
 
-/// Whether an event is counted.
+/// Whether `event` is counted.
 fn is_counted(event: &Event, counted: Counted) -> bool
     ensures { result ≡ is_counted counted event.now }
 {
@@ -23,7 +23,7 @@ fn is_counted(event: &Event, counted: Counted) -> bool
     }
 }
 
-/// How many events of an entry are counted.
+/// How many events of `entry` are counted.
 fn count_in(entry: &Repeated, counted: Counted) -> u64
     ensures { result ≡ count (is_counted counted) (replicate entry.now.count entry.now.event) }
 {
@@ -34,7 +34,7 @@ fn count_in(entry: &Repeated, counted: Counted) -> u64
     }
 }
 
-/// How many events are counted.
+/// How many events of `trace` are counted.
 fn count_all(trace: &Trace, counted: Counted) -> u64
     ensures count { result ≡ count (is_counted counted) trace.now.items }
     ensures few { result ≤ length trace.now.items }
@@ -47,7 +47,7 @@ fn count_all(trace: &Trace, counted: Counted) -> u64
     count
 }
 
-/// How many derivations a kernel has.
+/// How many derivations `kernel` has.
 pub fn count_derivations(kernel: &Kernel) -> u32
     ensures { result ≡ length kernel.now.state.delegations.list }
 {
@@ -60,7 +60,7 @@ pub fn count_derivations(kernel: &Kernel) -> u32
     count
 }
 
-/// The summary of a run of a numbered scenario: its turns, how many children were made and how many
+/// The summary of a run of the scenario of number `number`: its turns, how many children were made and how many
 /// derivations removed, and how many there are at the end. The only error is that memory ran out.
 #[tactic(auto, unfolding(crate::specs::Summary::summary))]
 pub fn summary(

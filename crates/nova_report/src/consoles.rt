@@ -42,7 +42,7 @@ fn write_console(out: &mut String, console: u32, log: &[LogByte]) -> Result<(), 
     out.push_str("\n")
 }
 
-/// A line for each console, with the bytes that were stored to it.
+/// Writes a line for each console of `kernel`, with the bytes that were stored to it.
 pub fn write_consoles(out: &mut String, kernel: &Kernel) -> Result<(), AllocError>
     ensures { OnOk result (string_bytes out.new ≡ string_bytes out.old ++ console_lines kernel.now.state) }
 {

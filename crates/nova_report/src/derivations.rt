@@ -45,7 +45,7 @@ fn write_derivation(out: &mut String, derivation: Derivation) -> Result<(), Allo
     writeln!(out, " {pd} {space} {base} {order} {rights} {target}")
 }
 
-/// A line for each derivation, by rising id.
+/// Writes a line for each derivation of `kernel`, by rising id.
 pub fn write_derivations(out: &mut String, kernel: &Kernel) -> Result<(), AllocError>
     ensures { OnOk result (string_bytes out.new ≡ string_bytes out.old ++ derivation_lines kernel.now.state) }
 {

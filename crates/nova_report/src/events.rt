@@ -13,7 +13,7 @@ fn is_silent(kind: EventKind) -> bool
     matches!(kind, EventKind::Step | EventKind::Tick)
 }
 
-/// The word of a kind of event.
+/// The word of an event of `kind`.
 pub fn event_word<'a>(kind: EventKind) -> &'a str
     ensures word { result.now ≡ event_word kind }
     ensures short { length result.now ≤ 6 }
@@ -38,17 +38,17 @@ pub fn event_word<'a>(kind: EventKind) -> &'a str
     }
 }
 
-/// The lines of an event that has one and comes so many times, after a place.
+/// Writes the lines of `event`, which has one and comes `count` times, after `place`.
 fn write_times(
     out: &mut Vec<u8>,
     told: &mut [Told; 4],
     place: u64,
-    event: Event,
+    event: &Event,
     count: u64,
 ) -> Result<(), AllocError>
-    requires told { is_silent event.kind ≡ false }
+    requires told { is_silent event.now.kind ≡ false }
     requires few { place + count < 2 ^ 64 }
-    ensures { OnOk result (out.new.items ≡ out.old.items ++ lines_from (place + 1) (replicate count event)) }
+    ensures { OnOk result (out.new.items ≡ out.old.items ++ lines_from (place + 1) (replicate count event.now)) }
 {
     for i in 0..count {
         write_line(out, told, place + i + 1, event)?;
@@ -56,7 +56,7 @@ fn write_times(
     Ok(())
 }
 
-/// The lines of an event that comes so many times, after a place: none where it is silent.
+/// Writes the lines of `entry`, after `place`: none where its event is silent.
 fn write_entry(
     out: &mut Vec<u8>,
     told: &mut [Told; 4],
@@ -69,10 +69,10 @@ fn write_entry(
     if is_silent(entry.event.kind) {
         return Ok(());
     }
-    write_times(out, told, place, entry.event, entry.count)
+    write_times(out, told, place, &entry.event, entry.count)
 }
 
-/// A line for each event but step and tick, by place from 1.
+/// Writes to `out` a line for each event of `trace` but steps and ticks, with its place in the trace, from 1.
 pub fn write_events(out: &mut Vec<u8>, trace: &Trace) -> Result<(), AllocError>
     ensures { OnOk result (out.new.items ≡ out.old.items ++ event_lines trace.now.items) }
 {

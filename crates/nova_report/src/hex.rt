@@ -3,7 +3,7 @@ ghost use Rattle.nova_report.specs.Words.{hexadecimal};
 
 use std::alloc::AllocError;
 
-/// The eight hexadecimal digits of a word.
+/// Writes the eight hexadecimal digits of `word`.
 #[tactic(auto, using(crate::proofs::Numerals::word_is))]
 pub fn write_word(out: &mut String, word: u32) -> Result<(), AllocError>
     ensures { OnOk result (string_bytes out.new ≡ string_bytes out.old ++ hexadecimal 8 word) }
@@ -11,7 +11,7 @@ pub fn write_word(out: &mut String, word: u32) -> Result<(), AllocError>
     write!(out, "{word:08x}")
 }
 
-/// The two hexadecimal digits of a byte.
+/// Writes the two hexadecimal digits of `byte`.
 #[tactic(auto, using(crate::proofs::Numerals::byte_is))]
 pub fn write_byte(out: &mut String, byte: u8) -> Result<(), AllocError>
     ensures { OnOk result (string_bytes out.new ≡ string_bytes out.old ++ hexadecimal 2 byte) }

@@ -1,26 +1,31 @@
-ghost use Rattle.std.specs.Prelude.{◌≡◌, ◌+◌, ◌-◌, ◌≤◌, ◌++◌, length, drop, decimal};
+ghost use Rattle.std.specs.Prelude.{◌≡◌, ◌+◌, ◌-◌, ◌≤◌, ◌++◌, length, drop, decimal, OnOk};
 ghost use Rattle.nova_report.specs.Words.{line_feed};
 
 use itoa::write_digits;
+use std::alloc::AllocError;
 use std::marker::Model;
 
 /// How many bytes a line has at most.
 const LONGEST: usize = 128;
 
-/// A line of text that is written from its end: what is put into it stands before what was put before.
+/// How many bytes most lines have at most. So many are copied at once, which needs no loop.
+const BLOCK: usize = 32;
+
+/// A line of text that is written from its end: what is put into it stands before what was put before. Behind its end lies a block, so that
+/// one can be copied wherever it begins.
 #[derive(Drop)]
 pub(crate) struct Line {
-    bytes: [u8; LONGEST],
+    bytes: [u8; LONGEST + BLOCK],
     start: usize,
 }
 
 impl Model for Line {
-    ghost use Rattle.std.specs.Prelude.{◌≡◌, ◌≤◌, length, drop};
+    ghost use Rattle.std.specs.Prelude.{◌≤◌, ◌-◌, take, drop};
     ghost use Rattle.nova_report.specs.Lines.{LineView};
 
     ghost Value = { LineView };
 
-    ghost view = { λ l. record { text = drop l.start l.bytes; room = l.start } };
+    ghost view = { λ l. record { text = take (128 - l.start) (drop l.start l.bytes); room = l.start } };
 
     ghost invariant = { λ l. l.start ≤ 128 };
 }
@@ -31,7 +36,7 @@ impl Line {
         ensures text { result.text ≡ line_feed }
         ensures room { result.room ≡ 127 }
     {
-        let mut bytes = [0; LONGEST];
+        let mut bytes = [0; LONGEST + BLOCK];
         bytes[LONGEST - 1] = b'\n';
         Line {
             bytes,
@@ -47,7 +52,7 @@ impl Line {
         self.start
     }
 
-    /// So much is taken away in front that there is this room again.
+    /// Takes away bytes in front until the room is `room` again.
     #[tactic(auto, using(crate::proofs::Again::further))]
     pub(crate) fn back_to(&mut self, room: usize)
         requires { (self.old.room ≤ room) × (room ≤ 128) }
@@ -61,11 +66,27 @@ impl Line {
     pub(crate) fn text(&self) -> &[u8]
         ensures { result.now ≡ self.now.text }
     {
-        &self.bytes[self.start..]
+        &self.bytes[self.start..LONGEST]
     }
 
-    /// A text comes before the rest of the line.
+    /// Adds the line to `out`.
+    #[tactic(auto, using(crate::proofs::Again::cut))]
+    pub(crate) fn add_to(&self, out: &mut Vec<u8>) -> Result<(), AllocError>
+        ensures { OnOk result (out.new.items ≡ out.old.items ++ self.now.text) }
+    {
+        let length = LONGEST - self.start;
+        if length > BLOCK {
+            return out.extend_from_slice(self.text());
+        }
+        let end = out.len() + length;
+        out.extend_from_slice(&self.bytes[self.start..self.start + BLOCK])?;
+        out.truncate(end);
+        Ok(())
+    }
+
+    /// Puts `text` before the rest of the line.
     #[inline(always)]
+    #[tactic(auto, using(crate::proofs::Again::before))]
     pub(crate) fn put(&mut self, text: &[u8])
         requires { length text.now ≤ self.old.room }
         ensures text { self.new.text ≡ text.now ++ self.old.text }
@@ -76,8 +97,8 @@ impl Line {
         self.start = start;
     }
 
-    /// A number comes before the rest of the line.
-    #[tactic(auto, using(crate::proofs::Numerals::few_digits))]
+    /// Puts `number` before the rest of the line.
+    #[tactic(auto, using(crate::proofs::Numerals::few_digits, crate::proofs::Again::before))]
     pub(crate) fn put_number(&mut self, number: u64)
         requires { 20 ≤ self.old.room }
         ensures text { self.new.text ≡ decimal number ++ self.old.text }

@@ -19,7 +19,7 @@ fn context_word<'a>(kind: EcKind) -> &'a str
     }
 }
 
-/// The word of a state of an execution context.
+/// The word of `state`, that of an execution context.
 pub fn state_word<'a>(state: State) -> &'a str
     ensures { result.now ≡ state_word state }
 {
@@ -92,7 +92,7 @@ fn write_context_of(
     }
 }
 
-/// A line for each execution context, by number.
+/// Writes a line for each execution context of `kernel`, by number.
 pub fn write_contexts(out: &mut String, kernel: &Kernel) -> Result<(), AllocError>
     ensures { OnOk result (string_bytes out.new ≡ string_bytes out.old ++ context_lines kernel.now.state) }
 {
@@ -119,7 +119,7 @@ fn write_budget_of(
     }
 }
 
-/// A line for each scheduling context, by number.
+/// Writes a line for each scheduling context of `kernel`, by number.
 pub fn write_budgets(out: &mut String, kernel: &Kernel) -> Result<(), AllocError>
     ensures { OnOk result (string_bytes out.new ≡ string_bytes out.old ++ budget_lines kernel.now.state) }
 {
@@ -146,7 +146,7 @@ fn write_semaphore_of(
     }
 }
 
-/// A line for each semaphore, by number.
+/// Writes a line for each semaphore of `kernel`, by number.
 pub fn write_semaphores(out: &mut String, kernel: &Kernel) -> Result<(), AllocError>
     ensures { OnOk result (string_bytes out.new ≡ string_bytes out.old ++ semaphore_lines kernel.now.state) }
 {

@@ -11,7 +11,7 @@ use nova_kernel::Kernel;
 use nova_trace::Trace;
 use std::alloc::{AllocError, Global};
 
-/// The first line of a report.
+/// The first line of a report of `kernel`.
 fn head(alloc: Global, kernel: &Kernel) -> Result<Vec<u8>, AllocError>
     ensures { IfOk result (λ text. text.items ≡ run_line kernel.now.state) }
 {
@@ -20,7 +20,7 @@ fn head(alloc: Global, kernel: &Kernel) -> Result<Vec<u8>, AllocError>
     Ok(out.into_bytes())
 }
 
-/// What the kernel holds at the end, and what the sources did in the events before it.
+/// What `kernel` holds at the end, and what the sources did in the events before it.
 #[tactic(auto, using(crate::proofs::Sourced::are_sources))]
 fn sections(alloc: Global, kernel: &Kernel, trace: &Trace) -> Result<String, AllocError>
     ensures { IfOk result (λ text. string_bytes text ≡ sections kernel.now.state trace.now.items) }
@@ -35,8 +35,7 @@ fn sections(alloc: Global, kernel: &Kernel, trace: &Trace) -> Result<String, All
     Ok(out)
 }
 
-/// The report of a kernel and of the events of its turns, in order. The only error is that memory
-/// ran out.
+/// The report of `kernel` and of the events of its turns, `trace`, in order. The only error is that memory ran out.
 #[tactic(auto, unfolding(crate::specs::Report::report))]
 pub fn report(alloc: Global, kernel: &Kernel, trace: &Trace) -> Result<Vec<u8>, AllocError>
     ensures { IfOk result (λ text. text.items ≡ report kernel.now.state trace.now.items) }

@@ -20,7 +20,7 @@ fn write_source(
     writeln!(out, "source {number} {cpu} {sm} {fired} {worst}")
 }
 
-/// A line for each source, by number.
+/// Writes a line for each of `sources`, by number.
 pub fn write_sources(
     alloc: Global,
     out: &mut String,

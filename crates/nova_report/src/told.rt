@@ -65,6 +65,14 @@ impl Told {
         Told { event, rest }
     }
 
+    /// Becomes the line of another event. Most are written again, so that this stays out of the code of each.
+    #[inline(never)]
+    fn tell(&mut self, event: &Event)
+        ensures { self.new ≡ event.now }
+    {
+        *self = Told::new(*event);
+    }
+
     /// Whether the line is that of an event, too.
     fn has_line_of(&self, event: &Event) -> bool
         ensures { OnTrue result (event_rest self.now ≡ event_rest event.now) }
@@ -79,7 +87,7 @@ impl Told {
         let room = self.rest.room();
         self.rest.put_number(place);
         self.rest.put(b"at ");
-        let wrote = out.extend_from_slice(self.rest.text());
+        let wrote = self.rest.add_to(out);
         self.rest.back_to(room);
         wrote
     }
@@ -108,13 +116,13 @@ pub(crate) fn write_line(
     out: &mut Vec<u8>,
     lines: &mut [Told; 4],
     place: u64,
-    event: Event,
+    event: &Event,
 ) -> Result<(), AllocError>
-    ensures { OnOk result (out.new.items ≡ out.old.items ++ event_line (place, event)) }
+    ensures { OnOk result (out.new.items ≡ out.old.items ++ event_line (place, event.now)) }
 {
     let told = &mut lines[(event.ec % 4) as usize];
-    if !told.has_line_of(&event) {
-        *told = Told::new(event);
+    if !told.has_line_of(event) {
+        told.tell(event);
     }
     told.write(out, place)
 }

@@ -104,7 +104,7 @@ next_facts r f forest place d before is =
 of_next : (r : Revocation) (f : Delegations) (place : ℕ) (d : Derivation) → IsNext r f place d → IsOf r d
 of_next r f place d next = record { pd = next.pd; kind = next.kind }
 
--- one that is no entry is passed
+-- a derivation that is no entry is passed
 pub passed : (r : Revocation) (f : Delegations) → IsForest f → (place : ℕ) (d : Derivation) → NoneBefore r f place → IsNext r f place d → is_entry r f.list d ≡ false →
     NoneBefore r f (end_of (range_of d))
 passed r f forest place d before next out a i h = by_place (cases_lt a.base (end_of (range_of d)))
@@ -116,7 +116,7 @@ passed r f forest place d before next out a i h = by_place (cases_lt a.base (end
         let off : is_entry r f.list a ≡ false = ap (is_entry r f.list) (sym same) ∙ out in
         absurd (cc)
 
--- one that is an entry is the one of least base
+-- a derivation that is an entry is that of least base
 pub found : (r : Revocation) (f : Delegations) → IsForest f → (place : ℕ) (d : Derivation) → IsNext r f place d → is_entry r f.list d ≡ true → Some d ≡ scope_entry r f.list
 found r f forest place d next h =
     sym (least_only base_of (filter (is_entry r f.list) f.list) d (in_filtered (is_entry r f.list) f.list d next.there h)

@@ -6,7 +6,7 @@ use Rattle.nova_model.specs.Revokes.{Revocation}
 use Rattle.nova_model.specs.Running.{Running, running_of}
 use Rattle.nova_revoke.specs.Runners.{index_of, revoke_in, begun_in, ended_in}
 
--- those of so many numbers from `n` on, by a function that says which revoke each runs
+-- those of the `count` numbers from `n` on, by a function that says which revoke each runs
 abbrev pub runs : (ℕ → Option Revocation) → ℕ → ℕ → List Running
 runs f n count = filter_map (λ ec. running_of ec (f ec)) (range_with_len n count)
 
@@ -47,7 +47,7 @@ runs_fewer f n (suc count) ec from below none = by_place (n == ec) refl (λ h. r
         rw here (omega (arith, few))
     by_place false is rest = fewer_by n count (f n) (runs f (n + 1) count) (rest (grind (arith, from, is)))
 
--- who runs one is found
+-- a context that runs a revoke is found
 away : (f : ℕ → Option Revocation) (n count ec : ℕ) → ec < n → index_of ec (runs f n count) ≡ length (runs f n count)
 away f n zero ec before = refl
 away f n (suc count) ec before = by_first (f n) (away f (n + 1) count ec (omega (arith, before)))
@@ -78,7 +78,7 @@ runs_found f n (suc count) ec from below = by_place (n == ec) refl (λ h. runs_f
     by_place true is rest = here is (f n) ∙ ap f (grind (arith, is))
     by_place false is rest = later is (f n) ∙ rest (grind (arith, from, is))
 
--- one begins
+-- a revoke begins
 pass : (w x : Running) (xs : List Running) → nat_lt w.ec x.ec ≡ false → begun_in w (x ∷ xs) ≡ x ∷ begun_in w xs
 pass w x xs later = rw later refl
 
@@ -120,7 +120,7 @@ runs_begun f g n (suc count) ec r from below none begins others =
     by_place false is rest =
         ap (λ (o : Option Revocation). cons_option (running_of n o) (runs g (n + 1) count)) (others n is) ∙ later (f n) from (rest (grind (arith, from, is)))
 
--- one is over
+-- a revoke is over
 remove_past : (xs : List Running) → remove xs (length xs) ≡ xs
 remove_past [] = refl
 remove_past (x ∷ xs) = ap (λ (ys : List Running). x ∷ ys) (remove_past xs)

@@ -1,4 +1,4 @@
--- From a derivation to its parents, and whether a new one is busy by its parent.
+-- From a derivation to its parents, and whether a new derivation is busy by its parent.
 use Rattle.std.proofs.Common.{◌≡◌, ℕ, ◌<◌, List, ap, sym, ◌∙◌, refl}
 use Rattle.std.specs.Prelude.{Bool, false, ◌==◌, ◌&&◌, ◌||◌, Contains, Option, Some, None}
 use Rattle.nova_range.specs.Ranges.{overlaps}
@@ -47,7 +47,7 @@ falls r f d at p forest way is = (parent_facts f at p forest way.there (sym is))
 pub found_there : (list : List Derivation) (id : ℕ) (d : Derivation) → Some d ≡ with_id list id → Contains list d
 found_there list id d found = contains_from_in list d (found_in (λ (a : Derivation). a.id == id) list d (sym found)).0
 
--- a new one with a parent
+-- a new derivation with a parent
 pub busy_is : (r : Revocation) (f : Delegations) (id pd : ℕ) (range : Range) (rights : Rights) (target : ℕ) (p : Derivation) → IsForest f → Some p ≡ with_id f.list id →
     busy r f.list (derived f.next (Some id) pd range rights target) ≡
     ((leads_into r p target range.order || in_scope r f.list p) || (is_same_kind r.range.kind range.kind && (pd == r.pd && overlaps range r.range)))

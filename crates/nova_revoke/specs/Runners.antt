@@ -18,12 +18,12 @@ index_of ec (w ∷ ws) = if w.ec == ec then 0 else suc (index_of ec ws)
 abbrev pub revoke_in : ℕ → List Running → Option Revocation
 revoke_in ec list = option_map (λ w. w.revoke) (slice_get list (index_of ec list))
 
--- where one goes: before the first of a greater number
+-- where the revoke of `ec` goes: before the first of a greater number
 abbrev pub place_of : ℕ → List Running → ℕ
 place_of ec [] = 0
 place_of ec (w ∷ ws) = if nat_lt ec w.ec then 0 else suc (place_of ec ws)
 
--- one begins, and that of an execution context is over
+-- a revoke begins, and that of an execution context is over
 abbrev pub begun_in : Running → List Running → List Running
 begun_in w list = insert list (place_of w.ec list) w
 

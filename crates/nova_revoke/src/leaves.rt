@@ -10,7 +10,7 @@ use nova_model::Derivation;
 use nova_nodes::Nodes;
 use nova_range::Index;
 
-/// The newest child in the scope of a derivation.
+/// The newest child of the derivation `id` that is in the scope of `revoke`.
 fn newest_in<I: Index>(nodes: &Nodes<I>, revoke: &Revoke, id: u32) -> Option<Derivation>
     requires sound { IsSound nodes.now.delegations }
     ensures { result ≡ newest_in revoke.now nodes.now.delegations.list id }
@@ -28,7 +28,7 @@ fn newest_in<I: Index>(nodes: &Nodes<I>, revoke: &Revoke, id: u32) -> Option<Der
     None
 }
 
-/// Whether a derivation of the revoker's is in the scope or has a child in it.
+/// Whether `d`, of the revoker's, is in the scope or has a child in it.
 fn is_entry<I: Index>(nodes: &Nodes<I>, revoke: &Revoke, d: Derivation) -> bool
     requires sound { IsSound nodes.now.delegations }
     requires there { Contains nodes.now.delegations.list d }
@@ -39,7 +39,7 @@ fn is_entry<I: Index>(nodes: &Nodes<I>, revoke: &Revoke, d: Derivation) -> bool
     in_scope_of(nodes, revoke, d) || newest_in(nodes, revoke, d.id).is_some()
 }
 
-/// The revoker's derivation of least base that has a place at or after the given one.
+/// The revoker's derivation of least base that has a place at or after `place`.
 fn next_held<I: Index>(nodes: &Nodes<I>, revoke: &Revoke, place: u32) -> Option<Derivation>
     ensures found { result ≡ first_from nodes.now.delegations.list revoke.now.range.kind revoke.now.pd place }
     ensures placed { IfSome result IsPlaced }
@@ -48,7 +48,7 @@ fn next_held<I: Index>(nodes: &Nodes<I>, revoke: &Revoke, place: u32) -> Option<
     nodes.first_from(revoke.pd, revoke.range.kind, place)
 }
 
-/// Where the way to the next leaf begins.
+/// The entry at which the way to the next leaf of `revoke` begins.
 fn scope_entry<I: Index>(nodes: &Nodes<I>, revoke: &Revoke) -> Option<Derivation>
     ensures found { result ≡ scope_entry revoke.now nodes.now.delegations.list }
     ensures sound { IsSound nodes.now.delegations }
@@ -63,7 +63,7 @@ fn scope_entry<I: Index>(nodes: &Nodes<I>, revoke: &Revoke) -> Option<Derivation
     None
 }
 
-/// The search for the leaf that goes next.
+/// Searches for the leaf that `revoke` takes next.
 fn find_leaf<I: Index>(nodes: &mut Nodes<I>, revoke: &Revoke) -> Option<Derivation>
     ensures found { result ≡ next_leaf revoke.now nodes.old.delegations }
     ensures sound { IsSound nodes.old.delegations }
@@ -76,10 +76,10 @@ fn find_leaf<I: Index>(nodes: &mut Nodes<I>, revoke: &Revoke) -> Option<Derivati
     }
 }
 
-/// The leaf of a revoke that goes next: of its scope a derivation without a child; nothing exactly where the scope is empty. It is found
-/// thus. Of the revoker's derivations that are in the scope or have a child in it, the way begins at the one of least base, and goes to
-/// its newest child in the scope and on from newest child to newest child; where none of its children is in the scope, it ends at once.
-/// The next search may be quicker; what is kept stays.
+/// The leaf that `revoke` takes next, a derivation of its scope without a child; nothing exactly where the scope is empty. It is found thus. Of the
+/// revoker's derivations that are in the scope or have a child in it, the way begins at that of least base, and goes to its newest child in the scope
+/// and on from newest child to newest child; where none of its children is in the scope, it ends at once. The next search may be quicker; what is
+/// kept stays.
 pub fn next_leaf<I: Index>(nodes: &mut Nodes<I>, revoke: &Revoke) -> Option<Derivation>
     ensures found { result ≡ next_leaf revoke.now nodes.old.delegations }
     ensures leaf { IfSome result (IsLeaf revoke.now nodes.old.delegations) }

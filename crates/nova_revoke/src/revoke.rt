@@ -1,7 +1,8 @@
 use nova_range::Range;
 use std::marker::Model;
 
-/// A revoke. It takes from others what was made of the places that a protection domain has in a range,
+/// A revoke by the protection domain `pd` of what comes from a range, and of its own derivations in the range
+/// too where `own`. It takes from others what was made of the places that a protection domain has in a range,
 /// with all that was made of that in turn.
 #[derive(Clone, Copy)]
 pub struct Revoke {

@@ -44,7 +44,7 @@ impl Guarded for Running {
     }
 }
 
-/// Whether a revoke is one of a protection domain, of an object range that contains a selector.
+/// Whether a revoke is one of the protection domain `pd`, of an object range that contains `selector`.
 fn is_of_objects(running: &Running, pd: u32, selector: u32) -> bool
     ensures { result ≡ is_of_objects pd selector running.now }
 {
@@ -59,7 +59,7 @@ fn is_of_objects(running: &Running, pd: u32, selector: u32) -> bool
         && selector - range.base < 1 << range.order
 }
 
-/// The revokes that run, by the number of the execution context, with a place for one of each.
+/// The revokes that run, by the number of the execution context, with a place for each that may run one.
 #[derive(Drop)]
 pub struct Revokes {
     list: Vec<Running>,
@@ -75,7 +75,7 @@ impl Model for Revokes {
 }
 
 impl Revokes {
-    /// None runs, and there is a place for none.
+    /// No running revokes, and places for none.
     pub fn new(alloc: Global) -> Revokes
         ensures { result.list ≡ [] }
     {
@@ -84,8 +84,7 @@ impl Revokes {
         }
     }
 
-    /// Makes places for the revokes of so many execution contexts. Places that were made before stay, and
-    /// where they are enough, this succeeds.
+    /// Makes places for the revokes of `contexts` execution contexts. Places that were made before stay, and where they are enough, this succeeds.
     pub fn reserve(&mut self, contexts: usize) -> Result<(), AllocError>
         ensures list { self.new.list ≡ self.old.list }
         ensures places { self.old.places ≤ self.new.places }
@@ -96,7 +95,7 @@ impl Revokes {
         self.list.reserve(contexts.saturating_sub(self.list.len()))
     }
 
-    /// The same in memory of its own, with places for so many.
+    /// Copies the running revokes into memory of their own, with places for the revokes of `contexts` execution contexts.
     pub fn copy(&self, contexts: usize) -> Result<Revokes, AllocError>
         ensures list { IfOk result (λ copy. copy.list ≡ self.now.list) }
         ensures places { IfOk result (λ copy. contexts ≤ copy.places) }
@@ -108,14 +107,14 @@ impl Revokes {
         Ok(copy)
     }
 
-    /// All of them.
+    /// The running revokes, in order.
     pub fn as_slice(&self) -> &[Running]
         ensures { result.now ≡ self.now.list }
     {
         self.list.as_slice()
     }
 
-    /// The revoke that an execution context runs.
+    /// The revoke that the execution context `ec` runs.
     pub fn get(&self, ec: u32) -> Option<Revoke>
         ensures { result ≡ revoke_in ec self.now.list }
     {
@@ -123,7 +122,7 @@ impl Revokes {
         Some(running.revoke)
     }
 
-    /// Whether one of a protection domain is of an object range that contains a selector.
+    /// Whether a running revoke of the protection domain `pd` is of an object range that contains `selector`.
     pub fn forbids(&self, pd: u32, selector: u32) -> bool
         ensures { result ≡ list_any (is_of_objects pd selector) self.now.list }
     {
@@ -135,7 +134,7 @@ impl Revokes {
         false
     }
 
-    /// Where the revoke of an execution context goes: before the first of a greater number.
+    /// Where the revoke of the execution context `ec` goes: before the first of a greater number.
     fn place_of(&self, ec: u32) -> usize
         ensures place { result ≡ place_of ec self.now.list }
         ensures within { result ≤ length self.now.list }
@@ -148,7 +147,7 @@ impl Revokes {
         self.list.len()
     }
 
-    /// Where the revoke of an execution context stands; the end of the list where it runs none.
+    /// Where the revoke of the execution context `ec` stands; the end of the list where it runs none.
     fn index_of(&self, ec: u32) -> usize
         ensures { result ≡ index_of ec self.now.list }
     {
@@ -160,7 +159,7 @@ impl Revokes {
         self.list.len()
     }
 
-    /// An execution context that runs none begins one, in its place.
+    /// Begins `revoke` for the execution context `ec`, which runs none, in its place.
     pub fn begin(&mut self, ec: u32, revoke: Revoke)
         requires { length self.old.list < self.old.places }
         ensures list { self.new.list ≡ begun_in (record { ec = ec; revoke = revoke }) self.old.list }
@@ -171,7 +170,7 @@ impl Revokes {
         prove!(done.is_ok());
     }
 
-    /// The revoke of an execution context is over, and its place is free.
+    /// Ends the revoke of the execution context `ec`, whose place is free then.
     pub fn end(&mut self, ec: u32)
         ensures list { self.new.list ≡ ended_in ec self.old.list }
         ensures places { self.new.places ≡ self.old.places }

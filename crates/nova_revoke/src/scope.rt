@@ -10,7 +10,7 @@ use nova_model::Derivation;
 use nova_nodes::{Guarded, Nodes};
 use nova_range::{Index, Kind, Range, inside, overlap};
 
-/// Whether two kinds are the same.
+/// Whether `a` and `b` are the same.
 fn is_same_kind(a: Kind, b: Kind) -> bool
     ensures { result ≡ is_same_kind a b }
 {
@@ -20,7 +20,7 @@ fn is_same_kind(a: Kind, b: Kind) -> bool
     }
 }
 
-/// The first place after a range, at most 2^20.
+/// The first place after `range`, at most 2^20.
 pub(crate) fn end(range: Range) -> u32
     requires { IsRange range }
     ensures { result ≡ end_of range }
@@ -28,7 +28,7 @@ pub(crate) fn end(range: Range) -> u32
     range.base + (1 << range.order)
 }
 
-/// Whether a range is the revoker's and shares a place with that of the revoke.
+/// Whether `range` is the revoker's and shares a place with that of the revoke.
 fn meets(revoke: &Revoke, pd: u32, range: Range) -> bool
     requires { IsRange range }
     ensures { result ≡ (is_same_kind revoke.now.range.kind range.kind && (pd == revoke.now.pd && overlaps range revoke.now.range)) }
@@ -36,7 +36,7 @@ fn meets(revoke: &Revoke, pd: u32, range: Range) -> bool
     is_same_kind(revoke.range.kind, range.kind) && pd == revoke.pd && overlap(range, revoke.range)
 }
 
-/// The first target of the places that a derivation shares with the range of a revoke.
+/// The first target of the places that the derivation `d` shares with the range of `revoke`.
 fn first_target(revoke: &Revoke, d: &Derivation) -> u64
     requires placed { IsPlaced d.now }
     requires met { IsTrue (is_met revoke.now d.now) }
@@ -46,7 +46,7 @@ fn first_target(revoke: &Revoke, d: &Derivation) -> u64
     d.target as u64 + (first - d.base) as u64
 }
 
-/// The first after these targets.
+/// The first target after these of `d`.
 fn end_target(revoke: &Revoke, d: &Derivation) -> u64
     requires placed { IsPlaced d.now }
     requires met { IsTrue (is_met revoke.now d.now) }
@@ -56,8 +56,7 @@ fn end_target(revoke: &Revoke, d: &Derivation) -> u64
     d.target as u64 + (end - d.base) as u64
 }
 
-/// Whether one of `2^order` targets is among those of the places that a derivation shares with the
-/// range of a revoke.
+/// Whether one of `2^order` targets is among those of the places that the derivation `d` shares with the range of `revoke`.
 fn leads_into(revoke: &Revoke, d: &Derivation, target: u32, order: u8) -> bool
     requires placed { IsPlaced d.now }
     requires order { order ≤ 20 }
@@ -68,7 +67,7 @@ fn leads_into(revoke: &Revoke, d: &Derivation, target: u32, order: u8) -> bool
         && first_target(revoke, d) < target as u64 + (1u64 << order)
 }
 
-/// Whether a derivation is made of the revoker's places in the range.
+/// Whether `child`, whose parent is `parent`, is made of the revoker's places in the range of `revoke`.
 fn is_made_of(revoke: &Revoke, child: &Derivation, parent: Option<Derivation>) -> bool
     requires placed { IsPlaced child.now }
     requires parent { IfSome parent IsPlaced }
@@ -80,7 +79,7 @@ fn is_made_of(revoke: &Revoke, child: &Derivation, parent: Option<Derivation>) -
     }
 }
 
-/// Whether a derivation is the revoker's own and goes too.
+/// Whether the derivation `d` is the revoker's own and goes too.
 fn is_own(revoke: &Revoke, d: &Derivation) -> bool
     requires { IsPlaced d.now }
     ensures { result ≡ is_own revoke.now d.now }
@@ -88,7 +87,7 @@ fn is_own(revoke: &Revoke, d: &Derivation) -> bool
     revoke.own && meets(revoke, d.pd, d.range()) && inside(d.range(), revoke.range)
 }
 
-/// The parent of a derivation.
+/// The parent of the derivation `d`.
 fn parent_of<I: Index>(nodes: &Nodes<I>, d: &Derivation) -> Option<Derivation>
     ensures found { result ≡ parent_of nodes.now.delegations.list d.now }
     ensures placed { IfSome result IsPlaced }
@@ -97,7 +96,7 @@ fn parent_of<I: Index>(nodes: &Nodes<I>, d: &Derivation) -> Option<Derivation>
     nodes.get(id)
 }
 
-/// Whether a derivation that is there is in the scope of a revoke.
+/// Whether `d`, which is there, is in the scope of `revoke`.
 pub(crate) fn in_scope_of<I: Index>(nodes: &Nodes<I>, revoke: &Revoke, d: Derivation) -> bool
     requires sound { IsSound nodes.now.delegations }
     requires there { Contains nodes.now.delegations.list d }
@@ -117,9 +116,9 @@ pub(crate) fn in_scope_of<I: Index>(nodes: &Nodes<I>, revoke: &Revoke, d: Deriva
     }
 }
 
-/// Whether the derivation of an id, which is there, is in the scope of a revoke: the scope is what was
-/// made of the places that the revoker has in the range, where the revoke takes own derivations too
-/// those of the revoker's that lie inside the range, and all descendants of both.
+/// Whether the derivation `id`, which is there, is in the scope of `revoke`. The scope is what was made of the
+/// places that the revoker has in the range, where the revoke takes own derivations too those of the revoker's
+/// that lie inside the range, and all descendants of both.
 pub fn in_scope<I: Index>(nodes: &Nodes<I>, revoke: &Revoke, id: u32) -> bool
     requires there { IsSome (with_id nodes.now.delegations.list id) }
     ensures { IfSome (with_id nodes.now.delegations.list id) (λ d. result ≡ in_scope revoke.now nodes.now.delegations.list d) }
@@ -130,8 +129,8 @@ pub fn in_scope<I: Index>(nodes: &Nodes<I>, revoke: &Revoke, id: u32) -> bool
     in_scope_of(nodes, revoke, d)
 }
 
-/// Whether a further derivation may not join while a revoke runs: it would be in the scope, or it would
-/// be the revoker's and share a place with the range. Its parent is there.
+/// Whether a further derivation may not join while `revoke` runs: it would be in the scope, or it would be the
+/// revoker's and share a place with the range. Its parent is there.
 pub fn would_grow<I: Index>(
     nodes: &Nodes<I>,
     revoke: &Revoke,

@@ -37,7 +37,7 @@ empty_meets start end (part ∷ parts) le =
     let none : meets start end part ≡ false = grind (arith, nat_tests) in
     rw none (empty_meets start end parts le)
 
--- a part that begins before the end meets the range where it reaches after the start; another one does not
+-- a part that begins before the end meets the range where it reaches after the start; another part does not
 meets_before : (start end : ℕ) (part : ℕ × ℕ) → start < end → part.0 < part.1 → begins end part ≡ true → meets start end part ≡ nat_lt start part.1
 meets_before start end part some spread e = let b = begins_below end part in grind (arith, nat_tests)
 

@@ -31,7 +31,7 @@ token_at line token = or_syntax line (token_bytes token)
 abbrev pub with_digits : List ℕ → Row → Result (List ℕ) At
 with_digits bytes row = if has_bytes row then Ok (bytes ++ line_bytes row) else at row.number Syntax
 
--- a block has the bytes that are wanted and ends at the number of a line, or is not closed; a fault is the one that is wanted
+-- a block has the bytes that are wanted and ends at the number of a line, or is not closed; a fault is that which is wanted
 abbrev pub GivesBlock : Result (List ℕ) At → Option Row → Result Block ScenarioFault → Type 0
 GivesBlock wanted end (Ok block) = (wanted ≡ Ok block.bytes.items) × (option_map (λ row. row.number) end ≡ block.end)
 GivesBlock wanted end (Err fault) = IsFault wanted fault

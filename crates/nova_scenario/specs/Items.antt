@@ -30,7 +30,7 @@ pub record Block : Type 0 where
 abbrev pub block : Row → List Row → Block
 block first rows = record { first = first; lines = before_first is_end rows; end = find is_end rows }
 
--- a line at fault, one that sets something and one of a source, by their numbers; an image
+-- a line at fault, a line that sets something and a line of a source, by their numbers; an image
 pub data Item : Type 0 where
   FaultyLine : ℕ → Why → Item
   SettingLine : ℕ → Setting → Item

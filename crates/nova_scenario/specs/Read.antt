@@ -13,7 +13,7 @@ use Rattle.nova_elf.specs.declared.fault.ElfFault.TheVariants.{Memory as ElfMemo
 use Rattle.rv_asm.specs.declared.fault.AsmFault.TheVariants.{Memory as AsmMemory}
 use Rattle.nova_scenario.specs.declared.scenario.Scenario.{Scenario}
 
--- a fault is the one that is wanted. Want of memory may be answered instead of anything
+-- a fault is that which is wanted. Want of memory may be answered instead of anything
 abbrev pub IsFault : {A : Type 0} → Result A At → ScenarioFault → Type 0
 IsFault wanted (AtLine line why) = wanted ≡ Err (record { line = line; why = why })
 IsFault wanted Memory = Unit {0}

@@ -9,7 +9,7 @@ use Rattle.nova_scenario.specs.declared.statement.Start.{Start}
 use Rattle.nova_scenario.specs.declared.statement.Start.TheVariants.{Address, Entry}
 use Rattle.nova_scenario.specs.declared.statement.Setting.TheVariants.{Cpus, Ram, Consoles, Root as RootLine}
 
--- a number from low to high, and one that is a multiple of 4
+-- a number from low to high, and a number that is a multiple of 4
 abbrev pub within : ℕ → ℕ → Option ℕ → Option ℕ
 within low high None = None
 within low high (Some n) = if nat_le low n && nat_le n high then Some n else None
@@ -27,7 +27,7 @@ abbrev pub root_of : Option (Option ℕ) → Option ℕ → Option ℕ → Optio
 root_of (Some pc) (Some sp) (Some priority) (Some quantum) = Some (record { pc = pc; sp = sp; priority = priority; quantum = quantum })
 root_of _ _ _ _ = None
 
--- what is set where it was: a second line is Repeated, and a first one that is out of range is Range
+-- what is set where it was: a second line is Repeated, and a first line that is out of range is Range
 abbrev pub set_once : {A : Type 0} → Option A → Option A → Result A Why
 set_once (Some old) new = Err Repeated
 set_once None None = Err Range

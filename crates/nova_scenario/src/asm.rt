@@ -29,7 +29,7 @@ struct Extent {
     stop: u64,
 }
 
-/// The number of a line that has a forbidden byte.
+/// The number of `line`, where it has a forbidden byte.
 fn forbidden_in(line: Line) -> Option<u64>
     ensures { result ≡ forbidden_in (row_of line.entry ∷ []) }
 {
@@ -40,7 +40,7 @@ fn forbidden_in(line: Line) -> Option<u64>
     }
 }
 
-/// Passes over an asm block in a text of so many bytes, up to its line `end` or the end of the lines.
+/// Passes over an asm block in a text of `len` bytes, up to its line `end` or the end of `lines`.
 fn extent_of(lines: &mut Lines, len: u64) -> Extent
     ensures forbidden { result.forbidden ≡ forbidden_in (before_first is_end lines.old) }
     ensures end { result.end ≡ option_map (λ row. row.number) (find is_end lines.old) }
@@ -65,7 +65,7 @@ fn extent_of(lines: &mut Lines, len: u64) -> Extent
     }
 }
 
-/// The number of the line with a place of a block's text, where the block's first line has the number `first`.
+/// The number of the line with `place` of the block's `text`, whose first line has the number `first`.
 fn line_of(first: u64, text: &[u8], place: u64) -> u64
     requires { first + 1 + length text.now < 2 ^ 64 }
     ensures { result ≡ line_of first text.now place }
@@ -75,7 +75,7 @@ fn line_of(first: u64, text: &[u8], place: u64) -> u64
     first + 1 + feeds as u64
 }
 
-/// Of the first line with a forbidden byte and a fault of the assembler at a line, the fault of least line.
+/// Of `forbidden`, the first line with a forbidden byte, and `fault`, one of the assembler at line `line`, the fault of least line.
 fn lesser(forbidden: Option<u64>, line: u64, fault: AsmFault) -> ScenarioFault
     ensures { IsFault (lesser forbidden line fault) result }
 {
@@ -100,7 +100,7 @@ fn refused(first: u64, text: &[u8], forbidden: Option<u64>, fault: AsmFault) -> 
     }
 }
 
-/// Words as bytes, of each the lowest first.
+/// `words` as bytes, of each the lowest first.
 fn bytes_of(alloc: Global, words: &[u32]) -> Result<Vec<u8>, AllocError>
     ensures { IfOk result (λ bytes. bytes.items ≡ bytes_of words.now) }
 {
@@ -131,7 +131,7 @@ fn asm_bytes(
     }
 }
 
-/// Reads an asm block after its first line, up to its line `end` or the end of the bytes.
+/// Reads the asm block after its first line `first`, up to its line `end` or the end of `bytes`.
 pub fn asm_block(
     alloc: Global,
     bytes: &[u8],

@@ -44,7 +44,7 @@ impl Model for Draft {
 }
 
 impl Draft {
-    /// No settings and no images.
+    /// A draft with no settings and no images.
     pub fn new(alloc: Global) -> Draft
         ensures { result ≡ empty }
     {
@@ -57,7 +57,7 @@ impl Draft {
         }
     }
 
-    /// Adds a setting.
+    /// Adds `setting` to the draft.
     pub fn set(&mut self, setting: Setting) -> Result<(), Why>
         ensures { Becomes (with_settings self.old (with_setting self.old.settings setting)) self.new result }
     {
@@ -65,7 +65,7 @@ impl Draft {
         Ok(())
     }
 
-    /// The source of a line, where it may stand.
+    /// The source of the line `head`, where it may stand.
     fn source_of(&self, head: SourceHead) -> Result<SourceRow, Why>
         ensures { result ≡ row_in self.now head }
     {
@@ -81,7 +81,7 @@ impl Draft {
         }
     }
 
-    /// Adds the source of a line.
+    /// Adds the source `head` of line `line`.
     pub fn add_source(&mut self, head: SourceHead, line: u64) -> Result<(), ScenarioFault>
         ensures draft { BecomesAt (on_line line (with_source self.old head)) self.new result }
         ensures memory { TakesIf (is_ok (with_source self.old head)) result }
@@ -92,14 +92,14 @@ impl Draft {
         Ok(())
     }
 
-    /// No source may follow.
+    /// Closes the draft: no source may follow.
     pub fn close(&mut self)
         ensures { self.new ≡ closing self.old }
     {
         self.closed = true;
     }
 
-    /// The address of an image that begins.
+    /// The address of an image that begins, at `address` where that is given.
     pub fn begin(&self, address: Option<u32>) -> Result<u32, Why>
         ensures { result ≡ begun self.now.settings address }
     {
@@ -112,7 +112,7 @@ impl Draft {
         }
     }
 
-    /// Adds the entry of an executable.
+    /// Makes the executable's `entry` the root's pc, where the root has none yet: Range where that is no multiple of 4 below 2^32.
     pub fn enter(&mut self, entry: u64) -> Result<(), Why>
         ensures { Becomes (with_settings self.old (entered self.old.settings self.old.settings.root entry)) self.new result }
     {
@@ -128,7 +128,7 @@ impl Draft {
         self.settings.ram_size()
     }
 
-    /// Adds an image of words that ends at a line.
+    /// Adds `image`, of words, which ends at line `line`.
     pub fn add(&mut self, image: Image, line: u64) -> Result<(), ScenarioFault>
         ensures { BecomesAt (on_line line (with_image self.old image)) self.new result }
     {
@@ -138,7 +138,7 @@ impl Draft {
         self.add_apart(image, line)
     }
 
-    /// Adds an image of a block that ends at a line.
+    /// Adds `image`, of a block that ends at line `line`.
     pub fn add_apart(&mut self, image: Image, line: u64) -> Result<(), ScenarioFault>
         ensures image { BecomesAt (on_line line (with_apart self.old image)) self.new result }
         ensures settings { OnOk result (self.new.settings ≡ self.old.settings) }
@@ -152,7 +152,7 @@ impl Draft {
         Ok(())
     }
 
-    /// Adds an image that lies from one address up to another, where no other one does.
+    /// Adds `image`, which lies from `start` up to `end`, where no other does.
     fn keep(&mut self, image: Image, start: u64, end: u64) -> Result<(), AllocError>
         requires start { start ≡ image.address }
         requires end { end ≡ end_of image }
@@ -205,14 +205,14 @@ impl Draft {
     }
 }
 
-/// The address after an image.
+/// The address after `image`.
 fn end_of(image: &Image) -> u64
     ensures { result ≡ end_of image.now }
 {
     u64::from(image.address) + image.bytes.as_slice().len() as u64
 }
 
-/// Whether an address is a multiple of 4 in RAM of so many bytes.
+/// Whether `address` is a multiple of 4 in RAM of `ram` bytes.
 fn is_word_address(ram: u64, address: u32) -> bool
     ensures { result ≡ is_word_address ram address }
 {

@@ -13,7 +13,7 @@ use hex::FromHexError;
 use nova_text::{Line, Lines, has_forbidden};
 use std::alloc::Global;
 
-/// The bytes that a token of a line writes.
+/// The bytes that `text`, a token of line `line`, writes.
 fn bytes_of(alloc: Global, text: &[u8], line: u64) -> Result<Vec<u8>, ScenarioFault>
     ensures { Gives (λ bytes. bytes.items) (token_at line text.now) result }
 {
@@ -24,7 +24,7 @@ fn bytes_of(alloc: Global, text: &[u8], line: u64) -> Result<Vec<u8>, ScenarioFa
     }
 }
 
-/// Appends the bytes that the tokens of a line write.
+/// Appends the bytes that the tokens of `line` write.
 fn push_bytes(alloc: Global, bytes: &mut Vec<u8>, mut line: Line) -> Result<(), ScenarioFault>
     ensures { BecomesAt (with_digits bytes.old.items (row_of line.entry)) bytes.new.items result }
 {
@@ -39,7 +39,7 @@ fn push_bytes(alloc: Global, bytes: &mut Vec<u8>, mut line: Line) -> Result<(), 
     Ok(())
 }
 
-/// Reads the bytes of an executable, up to its line `end` or the end of the lines.
+/// Reads the bytes of an executable from `lines`, up to its line `end` or the end of the lines.
 pub fn elf_block(alloc: Global, lines: &mut Lines) -> Result<Block, ScenarioFault>
     ensures block { GivesBlock (elf_bytes (before_first is_end lines.old)) (find is_end lines.old) result }
     ensures lines { OnOk result (lines.new ≡ after_first is_end lines.old) }

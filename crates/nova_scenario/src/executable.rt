@@ -13,7 +13,7 @@ use crate::slices::between;
 use nova_elf::{ElfFault, Program, Segment, read};
 use std::alloc::{AllocError, Global};
 
-/// The program of an executable whose block ends at a line.
+/// The program of an executable whose block ends at line `line`.
 fn program_of(alloc: Global, file: &[u8], line: u64) -> Result<Program, ScenarioFault>
     ensures { Gives (λ p. p) (on_line line (executable (program file.now))) result }
 {
@@ -24,14 +24,14 @@ fn program_of(alloc: Global, file: &[u8], line: u64) -> Result<Program, Scenario
     }
 }
 
-/// Whether a segment reaches past RAM of so many bytes.
+/// Whether `segment`, laid at `address`, reaches past RAM of `ram` bytes.
 fn reaches_past(ram: u64, address: u32, segment: Segment) -> bool
     ensures { result ≡ reaches_past ram address segment }
 {
     ram < u64::from(address) + u64::from(segment.address) + u64::from(segment.memory)
 }
 
-/// The bytes of a segment of an executable, and after them the zeros in the rest of its memory.
+/// The bytes of `segment` of the executable `file`, and after them the zeros in the rest of its memory.
 fn bytes_of(alloc: Global, file: &[u8], segment: Segment) -> Result<Vec<u8>, AllocError>
     ensures { IfOk result (λ bytes. bytes.items ≡ slice_range file.now segment.offset (segment.offset + segment.file) ++ replicate (segment.memory - segment.file) 0) }
 {
@@ -43,7 +43,7 @@ fn bytes_of(alloc: Global, file: &[u8], segment: Segment) -> Result<Vec<u8>, All
     Ok(bytes)
 }
 
-/// The image of a segment that lies from an address on.
+/// The image of `segment`, which lies from `address` on.
 fn image_of(alloc: Global, address: u32, file: &[u8], segment: Segment) -> Result<Image, AllocError>
     requires { address + segment.address < 2 ^ 32 }
     ensures { IfOk result (λ image. image ≡ segment_image address file.now segment) }
@@ -54,7 +54,7 @@ fn image_of(alloc: Global, address: u32, file: &[u8], segment: Segment) -> Resul
     })
 }
 
-/// Adds the segments of an executable that lies from an address on and ends at a line. None reaches past RAM.
+/// Adds the segments of an executable that lies from `address` on and ends at line `line`. None reaches past RAM.
 fn add_segments(
     alloc: Global,
     draft: &mut Draft,
@@ -74,7 +74,7 @@ fn add_segments(
     Ok(())
 }
 
-/// Whether some segment does.
+/// Whether some of `segments` reaches past RAM of `ram` bytes.
 fn some_reaches_past(ram: u64, address: u32, segments: &[Segment]) -> bool
     ensures { result ≡ list_any (reaches_past ram address) segments.now }
 {
@@ -83,7 +83,7 @@ fn some_reaches_past(ram: u64, address: u32, segments: &[Segment]) -> bool
         .any(|segment| reaches_past(ram, address, *segment))
 }
 
-/// The same, where some may reach past RAM.
+/// Adds `segments` as `add_segments` does, where some may reach past RAM.
 fn add_if_within(
     alloc: Global,
     draft: &mut Draft,
@@ -100,7 +100,7 @@ fn add_if_within(
     add_segments(alloc, draft, address, file, segments, line)
 }
 
-/// Adds the executable that lies from an address on and ends at a line.
+/// Adds the executable `file`, which lies from `address` on and ends at line `line`, to `draft`.
 pub fn add_executable(
     alloc: Global,
     draft: &mut Draft,

@@ -36,7 +36,7 @@ pub enum Why {
 }
 
 impl Why {
-    /// This at a line.
+    /// This fault at line `line`.
     pub(crate) fn at(self, line: u64) -> ScenarioFault
         ensures { result ≡ At line self }
     {
@@ -44,7 +44,7 @@ impl Why {
     }
 }
 
-/// The name of an executable's fault, without what it carries.
+/// The name of `fault`, that of an executable, without what it carries.
 fn elf_name(fault: ElfFault) -> &'static str
     ensures { result.now ≡ elf_name fault }
 {

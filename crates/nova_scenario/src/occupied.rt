@@ -41,7 +41,7 @@ impl Occupied {
         if end <= start {
             return false;
         }
-        // Of the parts that begin before the end, the last is the one that reaches furthest.
+        // Of the parts that begin before the end, the last reaches furthest.
         match self.ends.range(..end).next_back() {
             Some((_, last)) => start < *last,
             None => false,

@@ -23,7 +23,7 @@ use crate::words::hex_block;
 use nova_text::{Line, Lines};
 use std::alloc::Global;
 
-/// The fault of what is not there at the end of a text: it is on the line after the last.
+/// The fault of what is not there at the end of the text `bytes`: it is on the line after the last.
 fn missing(bytes: &[u8]) -> ScenarioFault
     ensures { result ≡ ScenarioFault.At (length (lines bytes.now) + 1) Missing }
 {
@@ -34,7 +34,7 @@ fn missing(bytes: &[u8]) -> ScenarioFault
     Why::Missing.at(next)
 }
 
-/// Adds what a block of a form lays from an address on, where it ends at a line.
+/// Adds what a block of `form` lays from `address` on, where it ends at line `line`.
 fn add_bytes(
     alloc: Global,
     draft: &mut Draft,
@@ -54,7 +54,7 @@ fn add_bytes(
     }
 }
 
-/// Adds the image that a line begins, with the lines of its block.
+/// Adds the image that the line `head` begins, with the lines of its block.
 fn read_image(
     alloc: Global,
     bytes: &[u8],
@@ -81,7 +81,7 @@ fn read_image(
     }
 }
 
-/// Adds what a line says. Where it begins an image, the lines of its block are taken too.
+/// Adds what `line` says. Where it begins an image, the lines of its block are taken too.
 fn read_item(
     alloc: Global,
     bytes: &[u8],
@@ -105,7 +105,7 @@ fn read_item(
     }
 }
 
-/// Reads a scenario.
+/// Reads `bytes` as a scenario.
 ///
 /// `At` comes exactly where the text is none, and names the first line at fault with its first fault. What is missing at the end is
 /// missing on the line after the last. `Memory` comes where memory is refused, and only where an image or a source stands before any

@@ -39,7 +39,7 @@ pub struct Settings {
     pub root: Option<Root>,
 }
 
-/// A number of a range.
+/// `number`, if it is from `low` to `high`.
 fn within(low: u32, high: u32, number: Option<u32>) -> Option<u32>
     ensures number { result ≡ within low high number }
     ensures bound { IfSome result (λ n. n ≤ high) }
@@ -47,7 +47,7 @@ fn within(low: u32, high: u32, number: Option<u32>) -> Option<u32>
     number.filter(|n| low <= *n && *n <= high)
 }
 
-/// A number of a range of bytes.
+/// `number`, if it is a byte of at most `high`.
 fn byte_within(high: u8, number: Option<u32>) -> Option<u8>
     ensures number { result ≡ within 0 high number }
     ensures bound { IfSome result (λ n. n ≤ high) }
@@ -58,14 +58,14 @@ fn byte_within(high: u8, number: Option<u32>) -> Option<u8>
     }
 }
 
-/// A number that is a multiple of 4.
+/// `number`, if it is a multiple of 4.
 fn aligned(number: Option<u32>) -> Option<u32>
     ensures { result ≡ aligned number }
 {
     number.filter(|n| *n % 4 == 0)
 }
 
-/// Where the first thread starts; nothing yet, where the first executable is to say it.
+/// Where the first thread starts, by `start`; nothing yet, where the first executable is to say it.
 fn pc_of(start: Start) -> Option<Option<u32>>
     ensures { result ≡ pc_of start }
 {
@@ -86,7 +86,7 @@ fn set_once<T: Copy>(old: Option<T>, new: Option<T>) -> Result<T, Why>
     }
 }
 
-/// The number of a processor that is there.
+/// `number`, if it is that of a processor that is there.
 fn cpu_below(cpus: Option<u32>, number: Option<u32>) -> Option<u32>
     ensures { result ≡ cpu_below cpus number }
 {
@@ -147,7 +147,7 @@ impl Settings {
         }
     }
 
-    /// The settings with one more.
+    /// The settings with `setting`.
     pub fn with(self, setting: Setting) -> Result<Settings, Why>
         ensures setting { result ≡ with_setting self setting }
         ensures ram { HasSmallRam self → IfOk result HasSmallRam }
@@ -175,7 +175,7 @@ impl Settings {
         Ok(settings)
     }
 
-    /// The settings with the entry of an executable.
+    /// The settings with the executable's `entry` as the root's pc, where the root has none yet: Range where that is no multiple of 4 below 2^32.
     pub fn entered(self, entry: u64) -> Result<Settings, Why>
         ensures entry { result ≡ entered self self.root entry }
         ensures ram { HasSmallRam self → IfOk result HasSmallRam }
@@ -187,7 +187,7 @@ impl Settings {
         Ok(settings)
     }
 
-    /// The source of a line, where each number is in its range.
+    /// The source of the line `head`, where each number is in its range.
     pub fn source_of(self, head: SourceHead) -> Option<SourceRow>
         ensures { result ≡ source_of self.cpus head }
     {
@@ -199,14 +199,14 @@ impl Settings {
         })
     }
 
-    /// Whether all are set.
+    /// Whether all settings are set.
     pub fn is_whole(self) -> bool
         ensures { result ≡ is_whole self }
     {
         self.cpus.is_some() && self.ram.is_some() && self.consoles.is_some() && self.root.is_some()
     }
 
-    /// How many bytes RAM has. Where it is not set it has none.
+    /// The size of RAM in bytes, 0 where it is not set.
     pub fn ram_size(self) -> u64
         requires { HasSmallRam self }
         ensures size { result ≡ ram_size self }

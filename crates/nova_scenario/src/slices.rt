@@ -1,6 +1,6 @@
 ghost use Rattle.std.specs.Prelude.{◌≡◌, slice_range};
 
-/// The bytes from one place up to another, as far as they are there.
+/// The bytes from `start` up to `stop`, as far as they are there.
 pub fn between(bytes: &[u8], start: u64, stop: u64) -> &[u8]
     ensures { result.now ≡ slice_range bytes.now start stop }
 {

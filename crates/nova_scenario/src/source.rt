@@ -2,7 +2,7 @@ ghost use Rattle.std.specs.Prelude.{◌≡◌};
 
 use std::marker::Model;
 
-/// A source of interrupts: a semaphore that is upped by a processor, at a moment of its clock and then again after each period, so many times.
+/// A source of interrupts: a semaphore that is upped by a processor, at a moment of its clock and then again after each period, `count` times.
 #[derive(Clone, Copy, Debug)]
 pub struct SourceRow {
     /// The number of the processor.

@@ -102,7 +102,7 @@ impl Keyword {
         }
     }
 
-    /// The keyword that a token is.
+    /// The keyword that the token `text` is.
     fn named(text: &[u8]) -> Option<Keyword>
         ensures { result ≡ keyword_named text.now }
     {
@@ -113,7 +113,7 @@ impl Keyword {
     }
 }
 
-/// The number of a token, where it has one. One of 2^32 or more is `None`.
+/// The number of the token `text`, where it has one. One of 2^32 or more is `None`.
 fn number_of(text: &[u8]) -> Option<Option<u32>>
     ensures { result ≡ number_of text.now }
 {
@@ -124,7 +124,7 @@ fn number_of(text: &[u8]) -> Option<Option<u32>>
     }
 }
 
-/// The form that a token names.
+/// The form that the token `text` names.
 fn form_of(text: &[u8]) -> Option<Form>
     ensures { result ≡ form_of text.now }
 {
@@ -139,7 +139,7 @@ fn form_of(text: &[u8]) -> Option<Form>
     }
 }
 
-/// The number that is all that is left of a line.
+/// The number that is all that is left of `line`.
 fn one_number(mut line: Line) -> Option<Option<u32>>
     ensures { result ≡ one_number (tokens_left line.entry) }
 {
@@ -150,7 +150,7 @@ fn one_number(mut line: Line) -> Option<Option<u32>>
     }
 }
 
-/// The start that a token says, where it says one.
+/// The start that the token `text` says, where it says one.
 fn start_of(text: &[u8]) -> Option<Start>
     ensures { result ≡ start_of text.now }
 {
@@ -160,7 +160,7 @@ fn start_of(text: &[u8]) -> Option<Start>
     Some(Start::Address(number_of(text)?))
 }
 
-/// The start and the three numbers that are all that is left of a line, as those of the first thread.
+/// The start and the three numbers that are all that is left of `line`, as those of the first thread.
 fn start_and_numbers(mut line: Line) -> Option<Setting>
     ensures { result ≡ start_and_numbers (tokens_left line.entry) }
 {
@@ -179,7 +179,7 @@ fn start_and_numbers(mut line: Line) -> Option<Setting>
     }
 }
 
-/// The four numbers that are all that is left of a line, as those of a source.
+/// The four numbers that are all that is left of `line`, as those of a source.
 fn four_numbers(mut line: Line) -> Option<SourceHead>
     ensures { result ≡ four_numbers (tokens_left line.entry) }
 {
@@ -198,7 +198,7 @@ fn four_numbers(mut line: Line) -> Option<SourceHead>
     }
 }
 
-/// The number and the form that are all that is left of a line.
+/// The number and the form that are all that is left of `line`.
 fn address_and_form(mut line: Line) -> Option<Head>
     ensures { result ≡ address_and_form (tokens_left line.entry) }
 {
@@ -213,7 +213,7 @@ fn address_and_form(mut line: Line) -> Option<Head>
     }
 }
 
-/// What a line says with what is left of it after its keyword.
+/// What `line` says with what is left of it after its keyword.
 fn statement_of(keyword: Keyword, line: Line) -> Option<Statement>
     ensures { result ≡ statement_of (tokens_left line.entry) keyword }
 {
@@ -227,7 +227,7 @@ fn statement_of(keyword: Keyword, line: Line) -> Option<Statement>
     }
 }
 
-/// What a line says by its tokens.
+/// What `line` says by its tokens.
 fn said_in(mut line: Line) -> Result<Option<Statement>, Why>
     ensures { result ≡ said_in (tokens_left line.entry) }
 {
@@ -243,7 +243,7 @@ fn said_in(mut line: Line) -> Result<Option<Statement>, Why>
     }
 }
 
-/// What a line outside of the blocks says, or nothing where it is blank.
+/// What `line`, outside of the blocks, says, or nothing where it is blank.
 pub fn said(line: Line) -> Result<Option<Statement>, Why>
     ensures { result ≡ said (row_of line.entry) }
 {
@@ -253,7 +253,7 @@ pub fn said(line: Line) -> Result<Option<Statement>, Why>
     said_in(line)
 }
 
-/// Whether `end` is the only token of a line.
+/// Whether `end` is the only token of `line`.
 pub fn is_end(mut line: Line) -> bool
     ensures { result ≡ is_end (row_of line.entry) }
 {

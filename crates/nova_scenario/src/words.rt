@@ -15,7 +15,7 @@ use std::alloc::Global;
 /// How many digits a word has.
 const WORD_DIGITS: usize = 8;
 
-/// The word of a token, which is exactly eight hexadecimal digits.
+/// The word of the token `text`, which is exactly eight hexadecimal digits.
 fn word_of(text: &[u8]) -> Option<u32>
     ensures { result ≡ word_of text.now }
 {
@@ -25,7 +25,7 @@ fn word_of(text: &[u8]) -> Option<u32>
     parse_digits(text, 16).ok()
 }
 
-/// Appends the bytes of the words of a line.
+/// Appends the bytes of the words of `line`.
 fn push_words(bytes: &mut Vec<u8>, mut line: Line) -> Result<(), ScenarioFault>
     ensures { BecomesAt (with_line bytes.old.items (row_of line.entry)) bytes.new.items result }
 {
@@ -42,7 +42,7 @@ fn push_words(bytes: &mut Vec<u8>, mut line: Line) -> Result<(), ScenarioFault>
     Ok(())
 }
 
-/// Reads a hex block, up to its line `end` or the end of the lines.
+/// Reads a hex block from `lines`, up to its line `end` or the end of the lines.
 pub fn hex_block(alloc: Global, lines: &mut Lines) -> Result<Block, ScenarioFault>
     ensures block { GivesBlock (in_bytes (hex_words (before_first is_end lines.old))) (find is_end lines.old) result }
     ensures lines { OnOk result (lines.new ≡ after_first is_end lines.old) }

@@ -1,4 +1,4 @@
--- The choice in plain terms: who is chosen may run, and runs behind none that may.
+-- The choice in plain terms: the chosen scheduling context may run, and runs behind none that may.
 use Rattle.std.proofs.Common.{◌≡◌, ℕ, zero, suc, ◌+◌, List, [], ◌∷◌, refl, ap, sym, subst, ◌∙◌, inl, inr, arith}
 use Rattle.std.specs.Prelude.{◌==◌, ◌&&◌, Bool, true, false, not, cond, nat_lt, is_some, Option, Some, None, MatchOption, option_map, if◌then◌else◌}
 use Rattle.std.specs.List.{find, list_all}
@@ -38,7 +38,7 @@ each_passes p cpu n (Some x ∷ os) (suc i) e is may all =
     ap (λ (k : ℕ). p (as_runnable k e)) (let same : n + suc i ≡ n + 1 + i = omega arith in same)
     ∙ each_passes p cpu (n + 1) os i e is may (rest_passes p (if (x.cpu == cpu) && x.is_runnable then Some (as_runnable n x) else None) (runnables_from cpu (n + 1) os) all)
 
--- what is found is one that may run, and it passes
+-- what is found may run, and passes
 record IsOf (p : Runnable → Bool) (cpu n : ℕ) (os : List (Option Queued)) (r : Runnable) : Type 0 where
   place : ℕ
   of : Queued
@@ -82,7 +82,7 @@ found_of p cpu n (Some e ∷ os) r found = by_tests (e.cpu == cpu) refl e.is_run
     by_tests true its_cpu false runs h others = later p cpu n (Some e) os r (others h)
     by_tests false its_cpu u runs h others = later p cpu n (Some e) os r (others h)
 
--- there is a foremost wherever one is runnable
+-- there is a foremost wherever any is runnable
 best_there : (b : Runnable) (rs : List Runnable) → is_some (best_of (Some b) rs) ≡ true
 best_there b [] = refl
 best_there b (r ∷ rs) = by_test (runs_before r b) (best_there r rs) (best_there b rs)

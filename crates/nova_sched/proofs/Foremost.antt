@@ -1,4 +1,4 @@
--- The best that a search keeps is the one before which no other runs.
+-- The best that a search keeps is that before which no other runs.
 use Rattle.std.proofs.Common.{◌≡◌, ◌++◌, List, [], ◌∷◌, refl, ap, ◌∙◌, sym, arith, append_assoc}
 use Rattle.std.specs.Prelude.{Bool, true, false, not, Option, Some, None, if◌then◌else◌}
 use Rattle.std.specs.List.{find, list_all}
@@ -8,7 +8,7 @@ use Rattle.nova_sched.specs.Queues.{runs_before}
 use Rattle.nova_sched.specs.declared.queued.Runnable.{Runnable}
 use Rattle.nova_sched.specs.Best.{better, foremost}
 
--- the best of the one so far and those of a list
+-- the best of the best so far and those of a list
 abbrev pub best_of : Option Runnable → List Runnable → Option Runnable
 best_of best [] = best
 best_of best (c ∷ cs) = best_of (better best (Some c)) cs
@@ -22,11 +22,11 @@ runs_before-back a b h = grind arith
 runs_before-through : (a b c : Runnable) → runs_before a b ≡ true → runs_before b c ≡ true → runs_before a c ≡ true
 runs_before-through a b c h k = grind arith
 
--- one that runs before another runs before all that don't go before that
+-- a runnable that runs before another runs before all that don't go before that
 runs_before-past : (a b c : Runnable) → runs_before a b ≡ true → runs_before c b ≡ false → runs_before a c ≡ true
 runs_before-past a b c h k = grind arith
 
--- one that runs before a second, which runs before all of these
+-- a runnable that runs before a second, which runs before all of a list
 list_all-through : (a b : Runnable) (cs : List Runnable) → runs_before a b ≡ true →
     list_all (λ c. runs_before b c) cs ≡ true → list_all (λ c. runs_before a c) cs ≡ true
 list_all-through a b [] h all = refl
@@ -62,7 +62,7 @@ foremost-best front b back best =
     grind (arith, list_all-append (λ c. not (runs_before c b)) front (b ∷ back), list_all-back b front best.before_front, best.none_after, runs_before-self b) in
     find-past b front back front (b ∷ back) best.before_front ∙ grind (arith, first)
 
--- what a further one makes of the best
+-- what a further runnable makes of the best
 IsBest-kept : (front : List Runnable) (b : Runnable) (back : List Runnable) (c : Runnable) → IsBest front b back →
     runs_before c b ≡ false → IsBest front b (back ++ c ∷ [])
 IsBest-kept front b back c best h = record {

@@ -49,7 +49,7 @@ IsPoint r rs n = IsPartitionPoint (λ q. runs_before q r ≡ true) (λ q. runs_b
 point_rest : (r q : Runnable) (qs : List Runnable) (n : ℕ) → IsPoint r (q ∷ qs) (suc n) → IsPoint r qs n
 point_rest r q qs n point = (λ k e low high. point.0 (suc k) e (omega arith) (omega arith), λ k e low high. point.1 (suc k) e (omega arith) (omega arith))
 
--- at its point one is put in, and the one that stands there is taken out
+-- at its point a runnable is put in, and that which stands there is taken out
 pub inserted : (r : Runnable) (rs : List Runnable) (n : ℕ) → n ≤ length rs → IsPoint r rs n → insert rs n r ≡ placed r rs
 inserted r [] zero low point = refl
 inserted r [] (suc n) low point = absurd (omega arith)
@@ -144,7 +144,7 @@ order_dropped r (q ∷ qs) order = by_test (runs_before q r) (order_dropped r qs
     by_test true rest = (among_all (IsBehind q) (dropped r qs) (λ x i. all_among (IsBehind q) qs x order.0 (dropped_among r x qs i)), rest)
     by_test false rest = order.1
 
--- where one is there, it goes and no other does
+-- where it is there, it goes and no other does
 
 first_is : (r q : Runnable) (qs : List Runnable) → AllByRecursion (IsBehind q) qs → IsAmong (q ∷ qs) r → runs_before q r ≡ false → q ≡ r
 first_is r q qs all (inl e) h = e

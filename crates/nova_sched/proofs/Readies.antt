@@ -59,7 +59,7 @@ pub ready_elsewhere : (os : List (Option Queued)) (rs : List Runnable) (sc cpu :
 ready_elsewhere os rs sc cpu x y is same off ready =
     ready_kept cpu os rs sc x y ready is (other_of cpu sc y (λ e. off (sym e ∙ same)) ∙ sym (other_of cpu sc x (λ e. off (sym e))))
 
--- there is room for one that may not run yet
+-- there is room for a scheduling context that may not run yet
 pub room_for : (queues : List QueueState) (readies : List ReadyState) (s : Schedule) (sc : ℕ) (x : Queued) → AreQueues queues s.entries → AreReady queues readies s → queued_at s sc ≡ Some x → x.is_runnable ≡ false →
     length (items_at readies x.cpu) < room_at readies x.cpu
 room_for queues readies s sc x queued are is off =
@@ -69,7 +69,7 @@ room_for queues readies s sc x queued are is off =
     let room = are.room x.cpu in
     omega arith
 
--- and for one that runs in another place
+-- and for one that runs in another place of the order
 pub room_again : (queues : List QueueState) (readies : List ReadyState) (s : Schedule) (sc : ℕ) (x : Queued) → AreQueues queues s.entries → AreReady queues readies s → queued_at s sc ≡ Some x → x.is_runnable ≡ true →
     length (dropped (as_runnable sc x) (items_at readies x.cpu)) < room_at readies x.cpu
 room_again queues readies s sc x queued are is on =

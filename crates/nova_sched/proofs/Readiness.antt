@@ -13,7 +13,7 @@ use Rattle.nova_sched.proofs.Others.{set_other}
 use Rattle.nova_sched.proofs.Placing.{all_among, among_dropped, among_placed, dropped_among, gone, length_dropped, length_placed, not_itself, order_dropped, order_placed, placed_among}
 use Rattle.nova_sched.proofs.Stamps.{foremost_is_alone, set_same}
 
--- WHO IS RUNNABLE
+-- WHICH ARE RUNNABLE
 
 pub record IsRunner (cpu sc : ℕ) (o : Option Queued) (r : Runnable) : Type 0 where
   pub of : Queued
@@ -152,7 +152,7 @@ ready_same cpu os ps rs ready same count = record {
   count = ready.count ∙ sym count;
 }
 
--- one in the place of another that is as runnable
+-- an entry in the place of another that is as runnable
 pub ready_kept : (cpu : ℕ) (os : List (Option Queued)) (rs : List Runnable) (sc : ℕ) (x y : Queued) → IsReady cpu os rs → entry_in os sc ≡ Some x →
     runnable_of cpu sc (Some y) ≡ runnable_of cpu sc (Some x) → IsReady cpu (slice_set os sc (Some y)) rs
 ready_kept cpu os rs sc x y ready is same = ready_same cpu os (slice_set os sc (Some y)) rs ready (λ k. by_place k (k == sc) refl) counted
@@ -172,7 +172,7 @@ ready_kept cpu os rs sc x y ready is same = ready_same cpu os (slice_set os sc (
         let w : weight (runnable_of cpu sc (Some y)) ≡ weight (runnable_of cpu sc (Some x)) = ap weight same in
         omega arith
 
--- ONE IS RUNNABLE FROM NOW ON
+-- A SCHEDULING CONTEXT IS RUNNABLE FROM NOW ON
 
 pub ready_joins : (cpu : ℕ) (os : List (Option Queued)) (rs : List Runnable) (sc : ℕ) (x y : Queued) → IsReady cpu os rs → entry_in os sc ≡ Some x → x.is_runnable ≡ false → y.cpu ≡ cpu → y.is_runnable ≡ true →
     ((q : Runnable) → IsAmong rs q → q.stamp ≡ y.budget.stamp → ⊥) → IsReady cpu (slice_set os sc (Some y)) (placed (as_runnable sc y) rs)
@@ -215,7 +215,7 @@ ready_joins cpu os rs sc x y ready is off at on apart = record {
         let b : weight (runnable_of cpu 0 (Some y)) ≡ 1 = ap weight (runner_of cpu 0 y at on) in
         omega arith
 
--- ONE IS NOT
+-- A SCHEDULING CONTEXT IS NOT RUNNABLE ANY MORE
 
 pub ready_leaves : (cpu : ℕ) (os : List (Option Queued)) (rs : List Runnable) (sc : ℕ) (x y : Queued) → IsReady cpu os rs → entry_in os sc ≡ Some x → x.cpu ≡ cpu → x.is_runnable ≡ true → y.is_runnable ≡ false →
     IsReady cpu (slice_set os sc (Some y)) (dropped (as_runnable sc x) rs)
@@ -259,7 +259,7 @@ ready_leaves cpu os rs sc x y ready is at on off = record {
         let b : weight (runnable_of cpu 0 (Some y)) ≡ 0 = ap weight (idle_of cpu 0 y off) in
         omega arith
 
--- WHO IS FIRST
+-- WHICH IS FIRST
 
 pub first_chosen : (s : Schedule) (cpu : ℕ) (rs : List Runnable) → IsReady cpu s.entries rs → AreStamped s → option_map (λ (r : Runnable). r.sc) (slice_get rs 0) ≡ choose s cpu
 first_chosen s cpu rs ready are = by_choice (choose s cpu) (chosen_is_foremost s cpu) rs ready

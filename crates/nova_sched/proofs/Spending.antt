@@ -1,4 +1,4 @@
--- So many turns paid at once.
+-- Many turns paid at once.
 use Rattle.std.proofs.Common.{◌≡◌, ◌<◌, ℕ, zero, suc, ◌-◌, List, [], ◌∷◌, ap, ap₂, sym, ◌∙◌, arith}
 use Rattle.std.specs.Prelude.{false, ◌==◌, slice_set, Option, Some, None}
 use Rattle.std.proofs.lemmas.List.{set-set}

@@ -8,7 +8,7 @@ use Rattle.nova_sched.specs.Precedence.{IsNotBehind, ChangesOne, AreStamped, Sta
 use Rattle.nova_sched.specs.declared.queued.Queued.{Queued}
 use Rattle.nova_sched.proofs.Others.{set_other, added_changes_one}
 
--- a stamp that is the next one, or was this one's before
+-- a stamp that is the next, or was that of `sc` before
 abbrev IsFresh : Schedule → Schedule → ℕ → ℕ → Type 0
 IsFresh s t sc stamp = (s.next_stamp ≤ stamp) ⊎ ((x : Queued) × (queued_at s sc ≡ Some x) × (stamp ≡ x.budget.stamp))
 
@@ -27,7 +27,7 @@ below_at s t sc are at n e is = by_place (n == sc) refl
         let before = are.below n e (sym (at.others n (λ same. absurd (grind (arith, place, same)))) ∙ is) in
         let rising = at.rising in omega arith
 
--- one that changed and another that didn't
+-- a scheduling context that changed and another that didn't
 apart_at : (s t : Schedule) (sc : ℕ) → AreStamped s → IsStampedAt s t sc → (b : ℕ) (x y : Queued) → queued_at t sc ≡ Some x → ¬ (b ≡ sc) → queued_at t b ≡ Some y →
     x.budget.stamp ≡ y.budget.stamp → sc ≡ b
 apart_at s t sc are at b x y is off of same = by_stamp (at.fresh x is)
@@ -57,7 +57,7 @@ stamped_at s t sc are at = record {
     by_places a b x y is of same false at_a false at_b =
         are.apart a b x y (sym (at.others a (λ e. absurd (grind (arith, at_a, e)))) ∙ is) (sym (at.others b (λ e. absurd (grind (arith, at_b, e)))) ∙ of) same
 
--- what stands where one was put
+-- what stands where an entry was put
 
 pub set_same : (os : List (Option Queued)) (sc : ℕ) (x y : Queued) → entry_in os sc ≡ Some x → entry_in (slice_set os sc (Some y)) sc ≡ Some y
 set_same [] sc x y is = absurd cc

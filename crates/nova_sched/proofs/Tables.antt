@@ -57,7 +57,7 @@ pub queues_set : (queues : List QueueState) (os : List (Option Queued)) (sc : �
     AreQueues queues (slice_set os sc (Some y))
 queues_set queues os sc x y are is same cpu = are cpu ∙ sym (members_set os sc x y cpu 0 is same)
 
--- ONE JOINS
+-- A SCHEDULING CONTEXT JOINS
 
 members_more : (os : List (Option Queued)) (o : Option Queued) (cpu n : ℕ) →
     members_from cpu n (os ++ o ∷ []) ≡ members_from cpu n os ++ in_front (member_of cpu (n + length os) o) []

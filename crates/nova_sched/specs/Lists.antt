@@ -49,7 +49,7 @@ foremost_among entries scs = foremost (runnable_among entries scs)
 abbrev pub paid : Queued → ℕ → Queued
 paid e stamp = record e { budget = budget_after (is_spent e.budget) e.quantum stamp e.budget }
 
--- so many turns are paid, fewer than are left
+-- `n` turns are paid, fewer than are left
 abbrev pub used_up : Queued → ℕ → Queued
 used_up e n = record e { budget = record { left = e.budget.left - n; stamp = e.budget.stamp; ticks = e.budget.ticks + n } }
 

@@ -1,4 +1,4 @@
--- Scheduling contexts as they wait for turns: who of a processor has the next one, and what a turn is charged to.
+-- Scheduling contexts as they wait for turns: which of a processor has the next turn, and what a turn is charged to.
 use Rattle.std.specs.Prelude.{ℕ, zero, suc, ◌+◌, ◌-◌, ◌<◌, ◌==◌, ◌&&◌, Bool, false, if◌then◌else◌, List, [], ◌∷◌, ◌++◌, length, replicate, slice_get, slice_index, slice_set, Option, Some, None, option_map}
 use Rattle.nova_model.specs.Choice.{in_front, first_of, outranks}
 use Rattle.nova_model.specs.State.{entry}
@@ -26,7 +26,7 @@ pub record HasRoom (q : QueuesState) (sc cpu : ℕ) : Type 0 where
 abbrev pub queued_at : Schedule → ℕ → Option Queued
 queued_at s sc = entry (slice_get s.entries sc)
 
--- WHO IS NEXT
+-- WHICH IS NEXT
 
 -- one of the processor that is runnable
 abbrev pub runnable_of : ℕ → ℕ → Option Queued → Option Runnable
@@ -46,7 +46,7 @@ runnables s cpu = runnables_from cpu 0 s.entries
 abbrev pub runs_before : Runnable → Runnable → Bool
 runs_before a b = outranks a.priority a.stamp b.priority b.stamp
 
--- the one before which no other runnable one of the processor runs
+-- the runnable scheduling context before which no other of the processor runs
 unfoldable pub next : Schedule → ℕ → Option Runnable
 next s cpu = first_of runs_before (runnables s cpu)
 
@@ -89,7 +89,7 @@ abbrev pub marked_by : Schedule → ℕ → Bool → Option Queued → Schedule
 marked_by s sc runnable None = s
 marked_by s sc runnable (Some e) = with_entry s sc (record e { is_runnable = runnable })
 
--- one is runnable from now on, or isn't
+-- the scheduling context is runnable from now on, or isn't
 abbrev pub marked : Schedule → ℕ → Bool → Schedule
 marked s sc runnable = marked_by s sc runnable (queued_at s sc)
 
@@ -100,11 +100,11 @@ charged_by s sc (Some e) = record s {
   next_stamp = stamp_after (is_spent e.budget) s.next_stamp;
 }
 
--- one pays a turn
+-- a scheduling context pays a turn
 abbrev pub charged_schedule : Schedule → ℕ → Schedule
 charged_schedule s sc = charged_by s sc (queued_at s sc)
 
--- and so many, one after another
+-- and `n` turns, one after another
 abbrev pub charged_schedules : ℕ → Schedule → ℕ → Schedule
 charged_schedules zero s sc = s
 charged_schedules (suc n) s sc = charged_schedule (charged_schedules n s sc) sc

@@ -1,4 +1,4 @@
--- Who of a processor may run, in the order in which they run.
+-- The scheduling contexts of a processor that may run, in the order in which they run.
 use Rattle.std.specs.Prelude.{◌≡◌, ◌≤◌, ◌<◌, ◌+◌, ◌⊎◌, ℕ, Bool, true, false, length, List, [], ◌∷◌, slice_get, slice_set, if◌then◌else◌, Option, Some, None}
 use Rattle.nova_model.specs.Forest.{ArePairs}
 use Rattle.nova_sched.specs.Queues.{Schedule, runnable_of, runnables_from, runs_before}
@@ -25,7 +25,7 @@ abbrev pub dropped : Runnable → List Runnable → List Runnable
 dropped r [] = []
 dropped r (q ∷ qs) = if runs_before q r then q ∷ dropped r qs else qs
 
--- one that runs first does so with a new stamp too
+-- the runnable that runs first does so with a new stamp too
 pub record StaysFirst (before after : Runnable) (rs : List Runnable) : Type 0 where
   pub there : 0 < length rs
   pub place : placed after (dropped before rs) ≡ slice_set rs 0 after
@@ -57,7 +57,7 @@ pub record IsReady (cpu : ℕ) (entries : List (Option Queued)) (ready : List Ru
   pub order : ArePairs IsBehind ready
   pub count : length ready ≡ length (runnables_from cpu 0 entries)
 
--- by processor: nobody of one that isn't there
+-- by processor; a processor that isn't there has none
 abbrev pub items_of : Option ReadyState → List Runnable
 items_of None = []
 items_of (Some r) = r.items

@@ -3,7 +3,7 @@ ghost use Rattle.nova_sched.specs.Queues.{runs_before};
 
 use crate::queued::Runnable;
 
-/// Whether the first runs before the second: a greater priority, or the same and a lesser stamp.
+/// Whether `a` runs before `b`: a greater priority, or the same and a lesser stamp.
 pub(crate) fn precedes(a: &Runnable, b: &Runnable) -> bool
     ensures { result ≡ runs_before a.now b.now }
 {

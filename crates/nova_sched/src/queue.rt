@@ -22,7 +22,7 @@ impl Model for Queue {
 }
 
 impl Queue {
-    /// Nobody, and room for nobody.
+    /// A queue with no members, and room for none.
     pub(crate) fn new(alloc: Global) -> Queue
         ensures { result ≡ record { members = []; spare = 0 } }
     {
@@ -43,7 +43,7 @@ impl Queue {
         Ok(())
     }
 
-    /// Adds one at the end, in reserved room.
+    /// Adds the scheduling context `sc` at the end, in reserved room.
     pub(crate) fn add(&mut self, sc: u32)
         requires { 0 < self.old.spare }
         ensures { self.new ≡ record { members = self.old.members ++ sc ∷ []; spare = self.old.spare - 1 } }
@@ -59,7 +59,7 @@ impl Queue {
         self.members.as_slice()
     }
 
-    /// The same members once more, and room for no more.
+    /// Copies the members, with room for no more.
     pub(crate) fn copy(&self, alloc: Global) -> Result<Queue, AllocError>
         ensures { IfOk result (λ q. q ≡ record { members = self.now.members; spare = 0 }) }
     {

@@ -1,7 +1,7 @@
 use nova_model::Budget;
 
-/// A scheduling context as it waits for turns: its processor, its priority (255 is the greatest), its
-/// quantum in turns, whether the turns that it gets lead to an execution context that acts, and its budget.
+/// A scheduling context as it waits for turns: its processor, priority (255 is the greatest), quantum in turns
+/// and budget. It is runnable where the turns that it gets lead to an execution context that acts.
 #[derive(Clone, Copy)]
 pub struct Queued {
     pub cpu: u32,

@@ -42,7 +42,7 @@ impl Model for Queues {
     ghost invariant = { λ q. AreQueues q.queues.items q.entries.items × ((q.reserved ≤ vec_capacity q.entries) × AreReady q.queues.items q.readies.items (record { entries = q.entries.items; next_stamp = q.next_stamp; cpus = length q.queues.items })) };
 }
 
-/// Empty queues, one for each processor.
+/// Empty queues, one for each of `cpus` processors.
 fn empty_queues(alloc: Global, cpus: u32) -> Result<Vec<Queue>, AllocError>
     ensures { IfOk result (λ v. v.items ≡ replicate cpus (record { members = []; spare = 0 })) }
 {
@@ -53,7 +53,7 @@ fn empty_queues(alloc: Global, cpus: u32) -> Result<Vec<Queue>, AllocError>
     Ok(queues)
 }
 
-/// For each processor nobody that may run.
+/// A list for each of `cpus` processors, where none may run.
 fn nobody(alloc: Global, cpus: u32) -> Result<Vec<Ready>, AllocError>
     ensures { IfOk result (λ v. v.items ≡ replicate cpus (record { items = []; room = 0 })) }
 {
@@ -64,7 +64,7 @@ fn nobody(alloc: Global, cpus: u32) -> Result<Vec<Ready>, AllocError>
     Ok(readies)
 }
 
-/// Puts a scheduling context among those of its processor that may run.
+/// Puts `r` among the scheduling contexts of the processor `cpu` that may run.
 fn admit(readies: &mut Vec<Ready>, cpu: u32, r: Runnable)
     requires cpu { cpu < length readies.old.items }
     requires room { length (items_at readies.old.items cpu) < room_at readies.old.items cpu }
@@ -77,7 +77,7 @@ fn admit(readies: &mut Vec<Ready>, cpu: u32, r: Runnable)
     readies[cpu as usize].insert(r);
 }
 
-/// Takes a scheduling context out of those of its processor that may run.
+/// Takes `r` out of the scheduling contexts of the processor `cpu` that may run.
 fn dismiss(readies: &mut Vec<Ready>, cpu: u32, r: Runnable)
     requires cpu { cpu < length readies.old.items }
     requires order { ArePairs IsBehind (items_at readies.old.items cpu) }
@@ -89,7 +89,7 @@ fn dismiss(readies: &mut Vec<Ready>, cpu: u32, r: Runnable)
     readies[cpu as usize].remove(r);
 }
 
-/// Makes room for so many of a processor in all. Where it is there, this succeeds.
+/// Makes room for `n` scheduling contexts of the processor `cpu` in all. Where the room is there, this succeeds.
 fn make_room(readies: &mut Vec<Ready>, cpu: u32, n: usize) -> Result<(), AllocError>
     requires { cpu < length readies.old.items }
     ensures items { (other : ℕ) → items_at readies.new.items other ≡ items_at readies.old.items other }
@@ -102,7 +102,7 @@ fn make_room(readies: &mut Vec<Ready>, cpu: u32, n: usize) -> Result<(), AllocEr
     readies[cpu as usize].reserve(n)
 }
 
-/// Who of a processor runs first.
+/// The scheduling context of the processor `cpu` that runs first.
 fn first(readies: &[Ready], cpu: u32) -> Option<Runnable>
     ensures { result ≡ slice_get (items_at readies.now cpu) 0 }
 {
@@ -112,7 +112,7 @@ fn first(readies: &[Ready], cpu: u32) -> Option<Runnable>
     }
 }
 
-/// Those that may run once more, with as much room.
+/// Copies `readies`, those that may run, with as much room.
 fn ready_copies(alloc: Global, readies: &[Ready]) -> Result<Vec<Ready>, AllocError>
     ensures { IfOk result (λ v. v.items ≡ readies.now) }
 {
@@ -123,7 +123,7 @@ fn ready_copies(alloc: Global, readies: &[Ready]) -> Result<Vec<Ready>, AllocErr
     Ok(copies)
 }
 
-/// A scheduling context as it waits for its turn.
+/// The scheduling context `sc` as it waits for its turn.
 fn runner(sc: u32, entry: &Queued) -> Runnable
     ensures { result ≡ as_runnable sc entry.now }
 {
@@ -134,8 +134,7 @@ fn runner(sc: u32, entry: &Queued) -> Runnable
     }
 }
 
-/// Puts a scheduling context that may run from now on among those that may, and takes out one that may
-/// no longer.
+/// Puts `sc` among those that may run where `is_runnable`, and else takes it out.
 fn requeue(readies: &mut Vec<Ready>, sc: u32, before: &Queued, is_runnable: bool)
     requires cpu { before.now.cpu < length readies.old.items }
     requires room { before.now.is_runnable ≡ false → length (items_at readies.old.items before.now.cpu) < room_at readies.old.items before.now.cpu }
@@ -152,7 +151,7 @@ fn requeue(readies: &mut Vec<Ready>, sc: u32, before: &Queued, is_runnable: bool
     }
 }
 
-/// Puts a scheduling context that may run and took a new stamp in its new place.
+/// Puts the scheduling context `sc`, which may run and took a new stamp, in its new place.
 fn renew(readies: &mut Vec<Ready>, sc: u32, before: &Queued, after: &Queued)
     requires cpu { before.now.cpu < length readies.old.items }
     requires room { before.now.is_runnable ≡ true → length (dropped (as_runnable sc before.now) (items_at readies.old.items before.now.cpu)) < room_at readies.old.items before.now.cpu }
@@ -178,7 +177,7 @@ fn pad(entries: &mut Vec<Option<Queued>>, n: usize)
     }
 }
 
-/// The queues once more, with the same members.
+/// Copies `queues`, with the same members.
 fn copies(alloc: Global, queues: &[Queue]) -> Result<Vec<Queue>, AllocError>
     ensures { IfOk result (λ v. v.items ≡ unroomed queues.now) }
 {
@@ -190,7 +189,7 @@ fn copies(alloc: Global, queues: &[Queue]) -> Result<Vec<Queue>, AllocError>
 }
 
 impl Queues {
-    /// No scheduling contexts, on so many processors; the first stamp is 0.
+    /// No scheduling contexts, on `cpus` processors; the first stamp is 0.
     pub fn new(alloc: Global, cpus: u32) -> Result<Queues, AllocError>
         ensures { IfOk result (λ q. q.all ≡ record { entries = []; next_stamp = 0; cpus = cpus }) }
     {
@@ -204,8 +203,8 @@ impl Queues {
         })
     }
 
-    /// Makes room for a scheduling context of a number and of a processor that is there. Room that was made before stays, and where
-    /// there is room, this succeeds. Where memory runs out, nothing has changed but room.
+    /// Makes room for the scheduling context `sc` of the processor `cpu`, which is there. Room that was made before stays, and where there is room,
+    /// this succeeds. Where memory runs out, nothing has changed but room.
     pub fn reserve(&mut self, sc: u32, cpu: u32) -> Result<(), AllocError>
         requires cpu { cpu < self.old.all.cpus }
         ensures kept { self.new.all ≡ self.old.all }
@@ -222,7 +221,7 @@ impl Queues {
         self.queues[cpu as usize].reserve()
     }
 
-    /// Adds a scheduling context in room that was made, with a full quantum and the next stamp. Its
+    /// Adds the scheduling context `sc` in room that was made, with a full quantum and the next stamp. Its
     /// number is greater than those of all before. It isn't runnable until that is said.
     pub fn add(&mut self, sc: u32, cpu: u32, priority: u8, quantum: u32)
         requires number { length self.old.all.entries ≤ sc }
@@ -247,15 +246,15 @@ impl Queues {
         self.next_stamp += 1;
     }
 
-    /// Whether a scheduling context of the number is there.
+    /// Whether the scheduling context `sc` is there.
     pub fn contains(&self, sc: u32) -> bool
         ensures { result ≡ is_some (queued_at self.now.all sc) }
     {
         matches!(self.entries.get(sc as usize), Some(Some(_)))
     }
 
-    /// The scheduling context that has the processor's next turn: of those that are runnable the one
-    /// of greatest priority, then of least stamp. None exactly where none is runnable.
+    /// The scheduling context that has the next turn of the processor `cpu`: of those that are runnable that of
+    /// greatest priority, then of least stamp. None exactly where none is runnable.
     pub fn choose(&self, cpu: u32) -> Option<u32>
         ensures choice { result ≡ choose self.now.all cpu }
         ensures there { IfSome result (λ sc. IsSome (queued_at self.now.all sc)) }
@@ -263,7 +262,7 @@ impl Queues {
         Some(first(&self.readies, cpu)?.sc)
     }
 
-    /// The scheduling contexts of a processor by rising number; none of a processor that isn't there.
+    /// The scheduling contexts of the processor `cpu` by rising number; none of a processor that isn't there.
     pub fn members(&self, cpu: u32) -> &[u32]
         ensures { result.now ≡ members self.now.all cpu }
     {
@@ -273,7 +272,7 @@ impl Queues {
         }
     }
 
-    /// The scheduling context of a number that has one.
+    /// The scheduling context of number `sc`, which there is.
     fn entry(&self, sc: u32) -> &Queued
         requires { IsSome (queued_at self.now.all sc) }
         ensures { queued_at self.now.all sc ≡ Some result.now }
@@ -284,7 +283,7 @@ impl Queues {
         entry
     }
 
-    /// Whether the turns of a scheduling context lead to an execution context that acts.
+    /// Sets whether the turns of the scheduling context `sc` lead to an execution context that acts.
     pub fn set_runnable(&mut self, sc: u32, is_runnable: bool)
         requires { IsSome (queued_at self.old.all sc) }
         ensures marked { self.new.all ≡ marked self.old.all sc is_runnable }
@@ -299,7 +298,7 @@ impl Queues {
         requeue(&mut self.readies, sc, &before, is_runnable);
     }
 
-    /// Charges the last turn of a quantum, which few turns are, so that it stays out of the code of each.
+    /// Charges the last turn of its quantum to `sc`; few turns are such, so that this stays out of the code of each.
     #[inline(never)]
     fn charge_last(&mut self, sc: u32)
         requires there { IsSome (queued_at self.old.all sc) }
@@ -320,7 +319,7 @@ impl Queues {
         renew(&mut self.readies, sc, &before, &after);
     }
 
-    /// So many turns, fewer than are left of its quantum, are charged to a scheduling context at once.
+    /// Charges `count` turns, fewer than are left of its quantum, to the scheduling context `sc` at once.
     #[inline(always)]
     pub fn spend(&mut self, sc: u32, count: u32)
         requires there { IsSome (queued_at self.old.all sc) }
@@ -336,7 +335,7 @@ impl Queues {
         use_up(payer, count);
     }
 
-    /// A turn is charged to a scheduling context: one tick more, one turn less of what is left of its
+    /// Charges a turn to the scheduling context `sc`: one tick more, one turn less of what is left of its
     /// quantum. At 0 the quantum begins anew, with the next stamp.
     #[inline(always)]
     pub fn charge(&mut self, sc: u32)
@@ -354,7 +353,7 @@ impl Queues {
         }
     }
 
-    /// The turns that a scheduling context paid for.
+    /// The turns that the scheduling context `sc` paid for.
     pub fn ticks(&self, sc: u32) -> u64
         requires { IsSome (queued_at self.now.all sc) }
         ensures { IfSome (queued_at self.now.all sc) (λ e. result ≡ e.budget.ticks) }
@@ -362,7 +361,7 @@ impl Queues {
         self.entry(sc).budget.ticks
     }
 
-    /// The turns that are left of a scheduling context's quantum.
+    /// The turns that are left of the quantum of the scheduling context `sc`.
     pub fn left(&self, sc: u32) -> u32
         requires { IsSome (queued_at self.now.all sc) }
         ensures { IfSome (queued_at self.now.all sc) (λ e. result ≡ e.budget.left) }
@@ -370,7 +369,7 @@ impl Queues {
         self.entry(sc).budget.left
     }
 
-    /// The same scheduling contexts once more.
+    /// Copies the scheduling contexts into memory of their own.
     pub fn copy(&self) -> Result<Queues, AllocError>
         ensures { IfOk result (λ q. q.all ≡ self.now.all) }
     {

@@ -10,9 +10,9 @@ use std::alloc::{AllocError, Global};
 use std::collections::VecDeque;
 use std::marker::Model;
 
-/// The scheduling contexts of one processor that are runnable, in the order in which they run: by falling
-/// priority, and of one priority by rising stamp. There is room for all of the processor. Who runs first mostly goes
-/// behind all of its priority next, so that both ends of the list are near.
+/// The scheduling contexts of one processor that are runnable, in the order in which they run: by falling priority, and of one priority by rising
+/// stamp. There is room for all of the processor. The first to run mostly goes behind all of its priority next, so that both ends of the list are
+/// near.
 #[derive(Drop)]
 pub(crate) struct Ready {
     items: VecDeque<Runnable>,
@@ -32,7 +32,7 @@ impl Model for Ready {
 }
 
 impl Ready {
-    /// Nobody, and room for nobody.
+    /// A list of none, with room for none.
     pub(crate) fn new(alloc: Global) -> Ready
         ensures { result ≡ record { items = []; room = 0 } }
     {
@@ -54,14 +54,14 @@ impl Ready {
         Ok(())
     }
 
-    /// Who runs first.
+    /// The scheduling context that runs first.
     pub(crate) fn first(&self) -> Option<Runnable>
         ensures { result ≡ slice_get self.now.items 0 }
     {
         self.items.front().copied()
     }
 
-    /// Puts one in behind those that run before it, in room that was made.
+    /// Puts `r` in behind those that run before it, in room that was made.
     pub(crate) fn insert(&mut self, r: Runnable)
         requires room { length self.old.items < self.old.room }
         requires order { ArePairs IsBehind self.old.items }
@@ -73,7 +73,7 @@ impl Ready {
         };
     }
 
-    /// Takes out the first that does not run before one.
+    /// Takes out the first that does not run before `r`.
     pub(crate) fn remove(&mut self, r: Runnable)
         requires order { ArePairs IsBehind self.old.items }
         ensures { self.new ≡ record self.old { items = dropped r self.old.items } }
@@ -84,7 +84,7 @@ impl Ready {
         }
     }
 
-    /// Whether one that runs first does so with a new stamp too.
+    /// Whether the first to run stays first with a new stamp: `before` with its old one, `after` with the new.
     fn stays_first(&self, before: &Runnable, after: &Runnable) -> bool
         ensures { OnTrue result (StaysFirst before.now after.now self.now.items) }
     {
@@ -99,7 +99,7 @@ impl Ready {
         is_first && none_passes
     }
 
-    /// Moves one to another place.
+    /// Moves `before` to the place of `after`, as which it goes on.
     #[inline(never)]
     fn shift(&mut self, before: Runnable, after: Runnable)
         requires room { length (dropped before self.old.items) < self.old.room }
@@ -110,7 +110,7 @@ impl Ready {
         self.insert(after);
     }
 
-    /// Puts one with a new stamp in its new place. Mostly it is first and stays so, and nothing moves.
+    /// Puts `after`, which is `before` with a new stamp, in its new place. Mostly it is first and stays so, and nothing moves.
     pub(crate) fn renew(&mut self, before: Runnable, after: Runnable)
         requires room { length (dropped before self.old.items) < self.old.room }
         requires order { ArePairs IsBehind self.old.items }
@@ -123,7 +123,7 @@ impl Ready {
         }
     }
 
-    /// The same once more, with as much room.
+    /// Copies the list, with as much room.
     pub(crate) fn copy(&self, alloc: Global) -> Result<Ready, AllocError>
         ensures { IfOk result (λ r. r ≡ self.now) }
     {

@@ -13,7 +13,7 @@ use Rattle.nova_sem.proofs.Sound.{has_append, once_append, up_sound, down_sound,
 use Rattle.nova_sem.proofs.Chains.{led_in, linked_length, linked_apart, led_apart, linked_more, led_more, few}
 use Rattle.nova_sem.proofs.Steps.{entry_at, semaphore_is, IsStep, IsLeft, step_entries, step_linked}
 
--- WHO WAITS AT ONE
+-- WHICH CONTEXTS WAIT AT A SEMAPHORE
 
 pub waits_at : (links : List ℕ) (counters : List (Option Counter)) (sm : ℕ) (c : Counter) → counter_at counters sm ≡ Some c → (ec : ℕ) → has (with_queue links c).waiting ec ≡ true →
     waits (all_with_queues links counters) sm ec ≡ true
@@ -64,7 +64,7 @@ rise_is : (links : List ℕ) (count first w : ℕ) → w ≡ 0 → (count == gre
 rise_is links count first zero none less = rw less refl
 rise_is links count first (suc w) none less = absurd cc
 
--- nobody waits, and the counter rises
+-- no context waits, and the counter rises
 pub rise : (links : List ℕ) (counters : List (Option Counter)) (sm : ℕ) (c to : Counter) → AreLinked links counters → counter_at counters sm ≡ Some c → c.waiting ≡ 0 →
     (c.count == greatest) ≡ false → to ≡ record c { count = c.count + 1 } → IsStep raised links links counters sm c to
 rise links counters sm c to are there none less is =
@@ -139,7 +139,7 @@ lower links counters sm ec c to are there lt is =
       below = λ x waiting. below_at links counters sm c are there x (ap (λ (s : Semaphore). has s.waiting x) becomes ∙ waiting);
     })
 
--- one is linked to the last, if someone waits
+-- a context is linked to the last, if any waits
 abbrev pub relinked : List ℕ → Counter → ℕ → List ℕ
 relinked links c ec = if c.waiting == 0 then links else slice_set links c.last ec
 
@@ -203,7 +203,7 @@ joined_below links counters sm ec c are there lt x waiting = by_test (eqb x ec) 
     by_test false who =
         below_at links counters sm c are there x (let e : has (linked links c.first c.waiting) x ≡ true = grind (arith, has_append (linked links c.first c.waiting) ec x, who, waiting) in e)
 
--- one waits, last of all
+-- a context waits, last of all
 pub block : (links more : List ℕ) (counters : List (Option Counter)) (sm ec : ℕ) (c to : Counter) → AreLinked links counters → counter_at counters sm ≡ Some c → c.count ≡ 0 →
     ec < length links → more ≡ relinked links c ec → to ≡ joined c ec → IsStep (lowered ec) links more counters sm c to
 block links more counters sm ec c to are there none lt linking joining =
@@ -309,7 +309,7 @@ answer_done links c lt = let some : (c.count == 0) ≡ false = grind (arith, lt)
 pub answer_blocked : (links : List ℕ) (c : Counter) → c.count ≡ 0 → answer_of (with_queue links c) ≡ Blocked
 answer_blocked links c none = let zero_count : (c.count == 0) ≡ true = grind (arith, none) in rw zero_count refl
 
--- WHERE NOBODY WAITS
+-- WHERE NONE WAITS
 
 pub nobody_waits : (links : List ℕ) (counters : List (Option Counter)) (sm : ℕ) (c : Counter) → AreLinked links counters → counter_at counters sm ≡ Some c → 0 < c.count → c.waiting ≡ 0
 nobody_waits links counters sm c are there lt = by_waiting c.waiting refl

@@ -8,7 +8,7 @@ use Rattle.nova_model.specs.Semaphores.{has}
 use Rattle.nova_sem.specs.Sound.{AreOnce}
 use Rattle.nova_sem.specs.Links.{linked, led_to}
 
--- WHO IS ONE OF THEM
+-- WHICH ARE AMONG THEM
 
 has_not_head : (x a : ℕ) (ecs : List ℕ) → has (a ∷ ecs) x ≡ false → ¬ (a ≡ x)
 has_not_head x a ecs h same = absurd (grind (arith, h, same))
@@ -25,7 +25,7 @@ has_head a ecs = grind arith
 pub has_apart : (x y : ℕ) (ecs : List ℕ) → has ecs x ≡ false → has ecs y ≡ true → ¬ (x ≡ y)
 has_apart x y ecs h is same = let there : has ecs x ≡ true = ap (has ecs) same ∙ is in absurd cc
 
--- the one that links lead to is one of them
+-- the context that links lead to is one of them
 pub led_in : (links : List ℕ) (a n : ℕ) → has (linked links a (suc n)) (led_to links a n) ≡ true
 led_in links a zero = has_head a []
 led_in links a (suc n) =
@@ -56,7 +56,7 @@ first_kept links ec a n once =
     get_or-set_other links (led_to links (slice_index links a) n) a ec 0
     (has_apart a (led_to links (slice_index links a) n) (linked links (slice_index links a) (suc n)) once.0 (led_in links (slice_index links a) n))
 
--- one is linked to the last
+-- a context is linked to the last
 pub linked_more : (links : List ℕ) (ec a n : ℕ) → AreOnce (linked links a (suc n)) → led_to links a n < length links →
     linked (slice_set links (led_to links a n) ec) a (suc (suc n)) ≡ linked links a (suc n) ++ ec ∷ []
 linked_more links ec a zero once lt = ap (λ (b : ℕ). a ∷ b ∷ []) (get_or-set_same links a ec 0 lt)

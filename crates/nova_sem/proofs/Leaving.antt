@@ -13,7 +13,7 @@ use Rattle.nova_sem.proofs.Chains.{has_apart, led_in, linked_apart, led_apart}
 use Rattle.nova_sem.proofs.Calls.{below_at, once_at, waits_at}
 use Rattle.nova_sem.proofs.Steps.{IsStep, IsLeft, step_entries, step_linked}
 
--- none of these is the one
+-- none of these is `ec`
 pub but_none : (ec : ℕ) (ecs : List ℕ) → has ecs ec ≡ false → without ec ecs ≡ ecs
 but_none ec [] h = refl
 but_none ec (e ∷ ecs) h =
@@ -25,7 +25,7 @@ not_there : (t : Bool) → (t ≡ true → ⊥) → t ≡ false
 not_there true h = absurd (h refl)
 not_there false h = refl
 
--- the one before is one of them, and not the one that leaves
+-- the context before is one of them, and not that which leaves
 pub before_in : (links : List ℕ) (a ec n : ℕ) → has (linked links a (suc n)) (before links a ec n) ≡ true
 before_in links a ec zero = grind arith
 before_in links a ec (suc n) = by_test (slice_index links a == ec) (before_in links (slice_index links a) ec n)
@@ -132,7 +132,7 @@ led_left links a ec (suc n) off once there within =
 
 -- THE STEPS
 
--- who waits there
+-- the contexts that wait there
 pub who_waits : (links : List ℕ) (counters : List (Option Counter)) (sm ec : ℕ) (c : Counter) → counter_at counters sm ≡ Some c → waits (all_with_queues links counters) sm ec ≡ true → has (with_queue links c).waiting ec ≡ true
 who_waits links counters sm ec c there is = ap (λ (s : Semaphore). has s.waiting ec) (sym (Rattle.nova_sem.proofs.Steps.semaphore_is links counters sm c there)) ∙ is
 
@@ -246,7 +246,7 @@ leave_later links more counters sm ec p c to are there off waiting place linking
         moved : ℕ → Counter
         moved n = record c { waiting = c.waiting - 1; last = if c.last == ec then n else c.last }
 
--- A SEARCH FOR THE ONE BEFORE
+-- A SEARCH FOR THE CONTEXT BEFORE
 
 pub chain_whole : (links : List ℕ) (first w x : ℕ) → 0 < w → has (linked links first (suc (w - 1))) x ≡ true → has (linked links first w) x ≡ true
 chain_whole links first w x lt is = let same : suc (w - 1) ≡ w = omega (arith, lt) in ap (λ (k : ℕ). has (linked links first k) x) (sym same) ∙ is

@@ -44,7 +44,7 @@ entry_new : (links : List ℕ) (count : Option ℕ) → entry_with_queue links (
 entry_new links None = refl
 entry_new links (Some n) = refl
 
--- one more entry, at which nobody waits
+-- an entry more, at which none waits
 pub added_entries : (links : List ℕ) (counters : List (Option Counter)) (count : Option ℕ) →
     all_with_queues links (counters ++ option_map new_counter count ∷ []) ≡ all_with_queues links counters ++ option_map idle_semaphore count ∷ []
 added_entries links counters count =

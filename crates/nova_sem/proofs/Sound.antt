@@ -20,7 +20,7 @@ has_append (e ∷ ecs) ec x = ap (λ (t : Bool). eqb x e || t) (has_append ecs e
     through true b c = refl
     through false b c = refl
 
--- one more that isn't there yet
+-- an execution context more that isn't there yet
 pub once_append : (ecs : List ℕ) (ec : ℕ) → AreOnce ecs → has ecs ec ≡ false → AreOnce (ecs ++ ec ∷ [])
 once_append [] ec are not_there = (refl, tt)
 once_append (e ∷ ecs) ec are not_there =
@@ -150,7 +150,7 @@ down_sound all sm ec free are = changed_sound (lowered ec) all sm are (down_one 
 abbrev pub recounted : ℕ → Semaphore → Semaphore
 recounted count s = record s { count = count }
 
--- where nobody waits the counter may be any
+-- where none waits the counter may be any
 pub count_sound : (all : Semaphores) (sm count : ℕ) → AreSound all → (semaphore all sm).waiting ≡ [] → AreSound (changed (recounted count) all sm)
 count_sound all sm count are none =
     changed_sound (recounted count) all sm are (record {
@@ -159,7 +159,7 @@ count_sound all sm count are none =
       idle = λ ec is. let nobody : has [] ec ≡ true = ap (λ (ecs : List ℕ). has ecs ec) (sym none) ∙ is in absurd cc;
     })
 
--- at a new entry nobody waits
+-- at a new entry none waits
 pub nobody_at : (all : Semaphores) (count : Option ℕ) → (semaphore (all ++ option_map idle_semaphore count ∷ []) (length all)).waiting ≡ []
 nobody_at all count =
     ap (λ (o : Option Semaphore). (semaphore_in o).waiting) (more_same all (option_map idle_semaphore count)) ∙ by_count count

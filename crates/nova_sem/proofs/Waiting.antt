@@ -1,4 +1,4 @@
--- Who waits where, after each change.
+-- Which contexts wait where, after each change.
 use Rattle.std.proofs.Common.{◌≡◌, ℕ, List, [], ◌∷◌, ◌++◌, length, refl, ap, sym, subst, ◌∙◌, arith}
 use Rattle.std.specs.Prelude.{◌==◌, ◌||◌, ◌-◌, eqb, Bool, true, false, if◌then◌else◌, Option, Some, None, IsSome, option_map, Result}
 use Rattle.std.specs.declared.result.Result.TheVariants.{Ok, Err}
@@ -13,7 +13,7 @@ use Rattle.nova_sem.proofs.Tables.{set_same, more_other}
 use Rattle.nova_sem.proofs.Changes.{changed_other}
 use Rattle.nova_sem.proofs.Sound.{has_append, nobody_at}
 
--- one that the change leaves where it was
+-- a context that the change leaves where it was
 pub changed_waits : (change : Semaphore → Semaphore) (all : Semaphores) (sm ec : ℕ) → has (change (semaphore all sm)).waiting ec ≡ has (semaphore all sm).waiting ec →
     (a : ℕ) → waits (changed change all sm) a ec ≡ waits all a ec
 changed_waits change all sm ec same a = by_place (a == sm) refl
@@ -126,7 +126,7 @@ nothing_past : (all : Semaphores) → semaphore_at all (length all) ≡ None
 nothing_past [] = refl
 nothing_past (o ∷ all) = nothing_past all
 
--- a new entry wakes and blocks nobody
+-- a new entry wakes and blocks no context
 pub added_waits : (all : Semaphores) (count : Option ℕ) → AllWaitAsBefore all (all ++ option_map idle_semaphore count ∷ [])
 added_waits all count a x = by_place (a == length all) refl
   where

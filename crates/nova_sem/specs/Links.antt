@@ -1,21 +1,21 @@
--- How a queue is kept: the first and the last that wait, how many they are, and by number of an execution context who waits after it.
+-- How a queue is kept: the first and the last that wait, how many they are, and by number of an execution context the one that waits after it.
 use Rattle.std.specs.Prelude.{◌≡◌, ◌<◌, ◌≤◌, ◌-◌, ◌^◌, ◌==◌, if◌then◌else◌, ℕ, zero, suc, true, List, [], ◌∷◌, map, length, slice_get, slice_index, Option, Some, None}
 use Rattle.nova_model.specs.State.{Semaphore, entry}
 use Rattle.nova_model.specs.Semaphores.{Semaphores, waits}
 use Rattle.nova_sem.specs.Sound.{AreSound}
 use Rattle.nova_sem.specs.declared.counter.Counter.{Counter}
 
--- so many execution contexts from one on, each followed by the one that it is linked to
+-- as many execution contexts as the number says, from `ec` on, each followed by that which it is linked to
 abbrev pub linked : List ℕ → ℕ → ℕ → List ℕ
 linked links ec zero = []
 linked links ec (suc n) = ec ∷ linked links (slice_index links ec) n
 
--- the one to which so many links lead
+-- the context to which as many links lead from `ec`
 abbrev pub led_to : List ℕ → ℕ → ℕ → ℕ
 led_to links ec zero = ec
 led_to links ec (suc n) = led_to links (slice_index links ec) n
 
--- of so many after one, the last before an execution context
+-- of as many contexts after `at`, the last before `ec`
 abbrev pub before : List ℕ → ℕ → ℕ → ℕ → ℕ
 before links at ec zero = at
 before links at ec (suc n) = if slice_index links at == ec then at else before links (slice_index links at) ec n
@@ -31,7 +31,7 @@ entry_with_queue links (Some c) = Some (with_queue links c)
 abbrev pub all_with_queues : List ℕ → List (Option Counter) → Semaphores
 all_with_queues links counters = map (entry_with_queue links) counters
 
--- a counter at which nobody waits
+-- a counter at which none waits
 abbrev pub new_counter : ℕ → Counter
 new_counter count = record { count = count; waiting = 0; first = 0; last = 0 }
 

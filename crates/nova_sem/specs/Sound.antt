@@ -1,4 +1,4 @@
--- Who waits, in plain terms, and whom a change is of.
+-- Which contexts wait, in plain terms, and which a change is of.
 use Rattle.std.specs.Prelude.{◌≡◌, ◌<◌, ◌==◌, ℕ, true, false, if◌then◌else◌, List, [], ◌∷◌, ◌++◌, length, Option, Some, None, option_map, Result, ⊤}
 use Rattle.std.specs.declared.result.Result.TheVariants.{Ok, Err}
 use Rattle.nova_model.specs.State.{Semaphore}
@@ -11,7 +11,7 @@ abbrev pub AreOnce : List ℕ → Type 0
 AreOnce [] = ⊤
 AreOnce (ec ∷ ecs) = (has ecs ec ≡ false) × AreOnce ecs
 
--- an execution context waits once, and at one semaphore alone, and someone waits only where the counter is 0
+-- an execution context waits once, and at one semaphore alone, and any waits only where the counter is 0
 pub record AreSound (all : Semaphores) : Type 0 where
   pub once : (sm : ℕ) → AreOnce (semaphore all sm).waiting
   pub alone : (ec a b : ℕ) → waits all a ec ≡ true → waits all b ec ≡ true → a ≡ b
@@ -54,7 +54,7 @@ abbrev pub after : Semaphore → List Call → Semaphore
 after s [] = s
 after s (call ∷ calls) = after (called s call) calls
 
--- who comes to wait
+-- the contexts that come to wait
 abbrev pub comes : Semaphore → Call → List ℕ
 comes s Up = []
 comes s (DownBy ec) = if s.count == 0 then ec ∷ [] else []
@@ -63,7 +63,7 @@ abbrev pub all_that_come : Semaphore → List Call → List ℕ
 all_that_come s [] = []
 all_that_come s (call ∷ calls) = comes s call ++ all_that_come (called s call) calls
 
--- who is woken
+-- the contexts that are woken
 abbrev pub woken_one : Result (Option ℕ) Overflow → List ℕ
 woken_one (Ok (Some ec)) = ec ∷ []
 woken_one (Ok None) = []

@@ -1,4 +1,4 @@
--- Who waits where, after each change.
+-- Which contexts wait where, after each change.
 use Rattle.std.specs.Prelude.{◌≡◌, ℕ, true, [], ◌∷◌, ◌++◌, Option, Some, IsSome, option_map}
 use Rattle.std.specs.declared.result.Result.TheVariants.{Ok}
 use Rattle.nova_model.specs.Creation.{idle_semaphore}
@@ -6,21 +6,21 @@ use Rattle.nova_model.specs.Semaphores.{Semaphores, semaphore_at, semaphore, wai
 use Rattle.nova_sem.specs.Sound.{AreSound, IsFree}
 use Rattle.nova_model.specs.declared.semaphore.Down.TheVariants.{Done, Blocked}
 
--- everyone waits where it did
+-- all wait where they did
 abbrev pub AllWaitAsBefore : Semaphores → Semaphores → Type 0
 AllWaitAsBefore all after = (sm ec : ℕ) → waits after sm ec ≡ waits all sm ec
 
--- everyone but one
+-- all but `ec`
 abbrev pub OthersWaitAsBefore : Semaphores → ℕ → Semaphores → Type 0
 OthersWaitAsBefore all ec after = (sm other : ℕ) → ¬ (other ≡ ec) → waits after sm other ≡ waits all sm other
 
--- Who is woken waits nowhere. Who blocks waits there. Nobody else comes or goes.
+-- A woken context waits nowhere. A context that blocks waits there. No other comes or goes.
 pub record OnlyTheWokenGoes : Type 0 where
   pub free : (all : Semaphores) (sm ec : ℕ) → AreSound all → woken (semaphore all sm) ≡ Ok (Some ec) → IsFree (upped all sm) ec
   pub up : (all : Semaphores) (sm ec : ℕ) → woken (semaphore all sm) ≡ Ok (Some ec) → OthersWaitAsBefore all ec (upped all sm)
   pub nobody : (all : Semaphores) (sm : ℕ) → (semaphore all sm).waiting ≡ [] → AllWaitAsBefore all (upped all sm)
 
--- one that leaves a queue in which it waited waits nowhere, and nobody else comes or goes
+-- a context that leaves a queue in which it waited waits nowhere, and no other comes or goes
 pub record OnlyTheLateGoes : Type 0 where
   pub sound : (all : Semaphores) (sm ec : ℕ) → AreSound all → AreSound (left all sm ec)
   pub free : (all : Semaphores) (sm ec : ℕ) → AreSound all → waits all sm ec ≡ true → IsFree (left all sm ec) ec

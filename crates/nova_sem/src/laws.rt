@@ -1,7 +1,7 @@
 ghost use Rattle.nova_sem.specs.Sound.{EachWaitsAlone, ChangesAreOfOne, FirstInFirstOut};
 ghost use Rattle.nova_sem.specs.Waiting.{OnlyTheWokenGoes, OnlyTheLateGoes, OnlyTheBlockedComes};
 
-/// Who waits at a semaphore is woken in the order in which it came.
+/// Execution contexts that wait at a semaphore are woken in the order in which they came.
 pub fn first_in_first_out()
     ensures { FirstInFirstOut }
 {}
@@ -16,8 +16,8 @@ pub fn changes_are_of_one()
     ensures { ChangesAreOfOne }
 {}
 
-/// Who is woken waits nowhere from then on, nor does who leaves a queue, and who blocks waits there. Everyone
-/// else waits where it did.
+/// A woken execution context waits nowhere from then on, nor does a context that leaves a queue, and a context
+/// that blocks waits there. All others wait where they did.
 pub fn one_comes_or_goes()
     ensures goes { OnlyTheWokenGoes }
     ensures comes { OnlyTheBlockedComes }

@@ -5,7 +5,7 @@ ghost use Rattle.nova_sem.specs.Links.{linked};
 use crate::sems::{Sems, counter_at};
 use std::alloc::{AllocError, Global};
 
-/// So many execution contexts from the first on, each followed by the one that it is linked to.
+/// The `waiting` execution contexts from `first` on, each followed by the context that `links` has for it.
 fn in_order(alloc: Global, links: &[u32], first: u32, waiting: u32) -> Result<Vec<u32>, AllocError>
     requires within { (x : ℕ) → has (linked links.now first waiting) x ≡ true → x < length links.now }
     ensures { IfOk result (λ queue. queue.items ≡ linked links.now first waiting) }
@@ -20,7 +20,7 @@ fn in_order(alloc: Global, links: &[u32], first: u32, waiting: u32) -> Result<Ve
 }
 
 impl Sems {
-    /// Who waits at a semaphore, in the order in which it came; nobody where no semaphore has the number.
+    /// The execution contexts that wait at the semaphore `sm`, in the order in which they came; none where no semaphore has the number.
     pub fn queue(&self, alloc: Global, sm: u32) -> Result<Vec<u32>, AllocError>
         ensures { IfOk result (λ queue. queue.items ≡ (semaphore self.now.all sm).waiting) }
     {

@@ -34,7 +34,7 @@ impl Model for Sems {
     ghost invariant = { λ s. AreLinked s.links.items s.counters.items × (vec_len s.counters + s.spare ≤ vec_capacity s.counters) };
 }
 
-/// The counter of a semaphore; none where no semaphore has the number.
+/// The counter of the semaphore `sm`; none where no semaphore has the number.
 pub(crate) fn counter_at(counters: &[Option<Counter>], sm: u32) -> Option<Counter>
     ensures counter { result ≡ counter_at counters.now sm }
     ensures number { IfSome result (λ counter. sm < length counters.now) }
@@ -42,7 +42,7 @@ pub(crate) fn counter_at(counters: &[Option<Counter>], sm: u32) -> Option<Counte
     *counters.get(sm as usize)?
 }
 
-/// The counter of a new semaphore, at which nobody waits.
+/// The counter of a new semaphore, at which none waits.
 fn idle_counter(count: Option<u32>) -> Option<Counter>
     ensures { result ≡ option_map new_counter count }
 {
@@ -54,7 +54,7 @@ fn idle_counter(count: Option<u32>) -> Option<Counter>
     })
 }
 
-/// The first that waits goes.
+/// `counter` without the first that waits.
 fn without_first(counter: Counter, links: &[u32]) -> Counter
     requires there { 0 < counter.waiting }
     requires within { counter.first < length links.now }
@@ -67,7 +67,7 @@ fn without_first(counter: Counter, links: &[u32]) -> Counter
     }
 }
 
-/// One more waits, last of all.
+/// `counter` where `ec` waits too, last of all.
 fn with_last(counter: Counter, ec: u32) -> Counter
     requires { counter.waiting < 2 ^ 32 - 1 }
     ensures { result ≡ record counter { waiting = counter.waiting + 1; first = if counter.waiting == 0 then ec else counter.first; last = ec } }
@@ -84,7 +84,7 @@ fn with_last(counter: Counter, ec: u32) -> Counter
     }
 }
 
-/// An execution context is linked to the last that waits, if someone does.
+/// Links the execution context `ec` to the last that waits, if any does.
 fn link(links: &mut Vec<u32>, counter: Counter, ec: u32)
     requires { 0 < counter.waiting → counter.last < length links.old.items }
     ensures { links.new.items ≡ (if counter.waiting == 0 then links.old.items else slice_set links.old.items counter.last ec) }
@@ -94,7 +94,7 @@ fn link(links: &mut Vec<u32>, counter: Counter, ec: u32)
     }
 }
 
-/// Who waits before an execution context: of so many from the first on, of whom it is one, but not the first.
+/// The execution context that waits before `ec`, which is among the `waiting` ones from `first` on, but not the first.
 fn before(links: &[u32], first: u32, waiting: u32, ec: u32) -> u32
     requires some { 0 < waiting }
     requires within { (x : ℕ) → has (linked links.now first waiting) x ≡ true → x < length links.now }
@@ -111,7 +111,7 @@ fn before(links: &[u32], first: u32, waiting: u32, ec: u32) -> u32
     at
 }
 
-/// Who waited before one that leaves is linked to who waits after it.
+/// Links `before`, which waits before `ec`, to what waits after `ec`, which leaves.
 fn unlink(links: &mut Vec<u32>, before: u32, ec: u32)
     requires before { before < length links.old.items }
     requires leaves { ec < length links.old.items }
@@ -120,7 +120,7 @@ fn unlink(links: &mut Vec<u32>, before: u32, ec: u32)
     links[before as usize] = links[ec as usize];
 }
 
-/// One leaves that is not the first, where another waits before it.
+/// `counter` where `ec` leaves, which is not the first: `before` waits before it.
 fn without_later(counter: Counter, before: u32, ec: u32) -> Counter
     requires { 0 < counter.waiting }
     ensures { result ≡ record counter { waiting = counter.waiting - 1; last = if counter.last == ec then before else counter.last } }
@@ -137,7 +137,7 @@ fn without_later(counter: Counter, before: u32, ec: u32) -> Counter
 }
 
 impl Sems {
-    /// No semaphores, and room for none and for nobody that waits.
+    /// No semaphores, and room for none, nor for an execution context to wait.
     pub fn new(alloc: Global) -> Sems
         ensures { result ≡ record { all = []; spare = 0; contexts = 0 } }
     {
@@ -174,8 +174,8 @@ impl Sems {
         self.links.resize(contexts, 0)
     }
 
-    /// Adds the entry of the next number in reserved room: a semaphore with its counter, at which nobody waits, or nothing. There is
-    /// room for the execution context of that number to wait.
+    /// Adds the entry of the next number in reserved room: a semaphore of counter `count`, at which none waits, or nothing. There is room for the
+    /// execution context of that number to wait.
     pub fn add(&mut self, count: Option<u32>)
         requires room { 0 < self.old.spare }
         requires waiting { length self.old.all < self.old.contexts }
@@ -185,21 +185,21 @@ impl Sems {
         self.spare -= 1;
     }
 
-    /// Each number of an entry may wait.
+    /// Tells that each number of an entry may wait.
     pub fn keeps_room(&self)
         ensures { length self.now.all ≤ self.now.contexts }
     {
         let _spare = self.spare;
     }
 
-    /// Whether a semaphore of the number is there.
+    /// Whether the semaphore `sm` is there.
     pub fn contains(&self, sm: u32) -> bool
         ensures { result ≡ is_some (semaphore_at self.now.all sm) }
     {
         matches!(self.counters.get(sm as usize), Some(Some(_)))
     }
 
-    /// The counter of a semaphore; 0 where no semaphore has the number.
+    /// The counter of the semaphore `sm`; 0 where no semaphore has the number.
     pub fn count(&self, sm: u32) -> u32
         ensures { result ≡ (semaphore self.now.all sm).count }
     {
@@ -209,7 +209,7 @@ impl Sems {
         }
     }
 
-    /// How many execution contexts wait at a semaphore; none where no semaphore has the number.
+    /// How many execution contexts wait at the semaphore `sm`; none where no semaphore has the number.
     pub fn waiting(&self, sm: u32) -> u32
         ensures { result ≡ length (semaphore self.now.all sm).waiting }
     {
@@ -219,7 +219,7 @@ impl Sems {
         }
     }
 
-    /// What an up would come to, with nothing changed.
+    /// What an up of the semaphore `sm` would come to, with nothing changed.
     pub fn peek_up(&self, sm: u32) -> Result<Option<u32>, Overflow>
         ensures { result ≡ woken (semaphore self.now.all sm) }
     {
@@ -235,9 +235,9 @@ impl Sems {
         Ok(None)
     }
 
-    /// An up of a semaphore: the first that waits is woken. Where nobody waits the counter rises by one and nobody is woken. At
-    /// 2^32 - 1 that is refused as an overflow, and then nothing has changed. Where no semaphore has the number nobody is woken, and
-    /// nothing changes. It takes no memory.
+    /// Ups the semaphore `sm`: the first execution context that waits there is woken. Where none waits the counter rises by one and none is woken. At
+    /// 2^32 - 1 that is refused as an overflow, and then nothing has changed. Where no semaphore has the number none is woken, and nothing changes.
+    /// It takes no memory.
     pub fn up(&mut self, sm: u32) -> Result<Option<u32>, Overflow>
         ensures woken { result ≡ woken (semaphore self.old.all sm) }
         ensures upped { self.new.all ≡ upped self.old.all sm }
@@ -258,7 +258,7 @@ impl Sems {
         Ok(Some(counter.first))
     }
 
-    /// What a down would come to, with nothing changed.
+    /// What a down of the semaphore `sm` would come to, with nothing changed.
     pub fn peek_down(&self, sm: u32) -> Down
         ensures { result ≡ answer_of (semaphore self.now.all sm) }
     {
@@ -269,9 +269,9 @@ impl Sems {
         }
     }
 
-    /// A down of a semaphore by an execution context that waits nowhere and for which room was made. A counter above 0 is lowered
-    /// by one. At 0 the execution context waits, last of all. Where no semaphore has the number the answer is that of a counter at 0,
-    /// and nothing changes. It takes no memory.
+    /// Downs the semaphore `sm` for the execution context `ec`, which waits nowhere and for which room was made. A counter above 0 is lowered by one.
+    /// At 0 the execution context waits, last of all. Where no semaphore has the number the answer is that of a counter at 0, and nothing changes. It
+    /// takes no memory.
     pub fn down(&mut self, sm: u32, ec: u32) -> Down
         requires room { ec < self.old.contexts }
         requires free { IsFree self.old.all ec }
@@ -295,7 +295,7 @@ impl Sems {
         Down::Blocked
     }
 
-    /// An execution context that waits at a semaphore leaves the queue; the others keep their order. It takes no memory.
+    /// Takes the execution context `ec` out of the queue of the semaphore `sm`, at which it waits; the others keep their order. It takes no memory.
     pub fn leave(&mut self, sm: u32, ec: u32)
         requires { waits self.old.all sm ec ≡ true }
         ensures left { self.new.all ≡ left self.old.all sm ec }
@@ -314,7 +314,7 @@ impl Sems {
         self.counters[sm as usize] = Some(without_later(counter, before, ec));
     }
 
-    /// The same entries in memory of their own, with the same room to wait and no spare room.
+    /// Copies the entries into memory of their own, with the same room to wait and no spare room.
     pub fn copy(&self) -> Result<Sems, AllocError>
         ensures { IfOk result (λ s. s ≡ record { all = self.now.all; spare = 0; contexts = self.now.contexts }) }
     {

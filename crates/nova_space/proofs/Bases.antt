@@ -1,4 +1,4 @@
--- Which entry is of a base: the one before which so many come as begin below the base, or none.
+-- The entry of a base: the entry before which as many come as begin below the base, or none.
 use Rattle.std.proofs.Common.{◌≡◌, ℕ, ◌≤◌, List, [], ◌∷◌, refl, ap, sym, ◌∙◌, arith}
 use Rattle.std.specs.Prelude.{Bool, true, false, not, length, filter, slice_get, if◌then◌else◌, Option, Some, None, option_map}
 use Rattle.std.specs.List.{AllByRecursion, find, remove}
@@ -8,7 +8,7 @@ use Rattle.nova_range.specs.Ranges.{end_of}
 use Rattle.nova_range.specs.Indices.{IsRising, has_base, key_of, key_of_base, taken_out}
 use Rattle.nova_space.specs.Cached.{is_below, of_base}
 
--- those after one that does not begin below a base are of other bases, and do not begin below it either
+-- entries after one that does not begin below a base are of other bases, and do not begin below it either
 record IsAfter (base : ℕ) (es : List Entry) : Type 0 where
   none : find (has_base base) es ≡ None
   kept : taken_out base es ≡ es
@@ -68,7 +68,7 @@ base_absent base (e ∷ es) none = by_test (has_base base e) refl none (λ g. ba
     by_test true h g rest = let k : find (has_base base) (e ∷ es) ≡ Some e = rw h refl in absurd (cc)
     by_test false h g rest = let k : find (has_base base) es ≡ None = rw h at g in rw h (ap (λ l. e ∷ l) (rest k))
 
--- the same by keys, of the entry that so many stand before
+-- the same by keys, of the entry that `n` others stand before
 pub key_found : (base : ℕ) (es : List Entry) (n : ℕ) → IsRising es → n ≡ length (filter (is_below base) es) → option_map key_of (of_base base (slice_get es n)) ≡ key_of_base base es
 key_found base es n rising count = ap (λ k. option_map key_of (of_base base (slice_get es k))) count ∙ ap (option_map key_of) (sym (base_found base es rising))
 

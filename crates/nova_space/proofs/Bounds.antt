@@ -49,7 +49,7 @@ IsBegun place es n = IsPartitionPoint (λ (e : Entry). nat_le e.range.base place
 begun_rest : (place : ℕ) (e : Entry) (es : List Entry) (n : ℕ) → IsBegun place (e ∷ es) (suc n) → IsBegun place es n
 begun_rest place e es n point = (λ k d low high. point.0 (suc k) d (omega arith) (omega arith), λ k d low high. point.1 (suc k) d (omega arith) (omega arith))
 
--- one with a later one that begins at the place or before ends there or before
+-- an entry with a later one that begins at `place` or before ends there or before
 ended : (place : ℕ) (e : Entry) (es : List Entry) (n : ℕ) → IsRising (e ∷ es) → IsBegun place (e ∷ es) (suc (suc n)) → suc n ≤ length es → ends_after place e ≡ false
 ended place e [] n rising point low = absurd (omega arith)
 ended place e (f ∷ es) n rising point low =
@@ -65,7 +65,7 @@ last_begun place (e ∷ es) zero other rising point low h = rw h refl
 last_begun place (e ∷ es) (suc n) other rising point low h =
     rw (ended place e es n rising point (omega arith)) (last_begun place es n other rising.1 (begun_rest place e es (suc n) point) (omega arith) h)
 
--- else the next one is the first that ends after it
+-- else the next entry is the first that ends after it
 next_begun : (place : ℕ) (es : List Entry) (n : ℕ) (other : Entry) → IsRising es → IsBegun place es n → n ≤ length es →
     ((k : ℕ) → n ≡ suc k → ends_after place (slice_index_or es k other) ≡ false) → find (ends_after place) es ≡ slice_get es n
 next_begun place [] zero other rising point low h = refl

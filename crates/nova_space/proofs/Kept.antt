@@ -13,7 +13,7 @@ use Rattle.nova_range.proofs.Members.{all_at, all_from, filtered_in, found_in, i
 use Rattle.nova_range.proofs.Sorted.{in_put}
 use Rattle.nova_space.specs.Cached.{IsOf, AreOf, spans, begins_at, noted, place_of, key_of_place}
 
--- the entry that has a place is the one that is found
+-- the entry that has a place is the entry that is found
 pub found_at : (place : ℕ) (es : List Entry) (e : Entry) → IsRising es → IsIn es e → has_place place e ≡ true → find (has_place place) es ≡ Some e
 found_at place [] e rising i h = absurd i
 found_at place (a ∷ es) e rising (inl is) h = let k : has_place place a ≡ true = ap (has_place place) is ∙ h in rw k (ap (λ x. Some x) is)

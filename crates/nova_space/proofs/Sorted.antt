@@ -17,7 +17,7 @@ pub all_join : {T : Type 0} (P : T → Type 0) (xs ys : List T) → AllByRecursi
 all_join P [] ys ps qs = qs
 all_join P (x ∷ xs) ys ps qs = (ps.0, all_join P xs ys ps.1 qs)
 
--- those after one that does not begin below a base don't either
+-- entries after one that does not begin below a base don't either
 later_above : (base : ℕ) (e : Entry) (es : List Entry) → AllByRecursion (λ f. end_of e.range ≤ f.range.base) es → is_below base e ≡ false → AllByRecursion (λ f. is_below base f ≡ false) es
 later_above base e [] after h = tt
 later_above base e (f ∷ fs) after h =
@@ -70,7 +70,7 @@ rising_join (e ∷ es) fs first second between = (
   rising_join es fs first.1 second (λ a b i j. between a b (inr i) j),
 )
 
--- one that begins before another ends before it, and one that does not begins after it, where they share no place
+-- an entry that begins before another ends before it, and an entry that does not begins after it, where they share no place
 ends_before : (e x : Entry) → overlaps e.range x.range ≡ false → begins_before x e ≡ true → end_of e.range ≤ x.range.base
 ends_before e x apart h = let some = pow_pos x.range.order in grind (arith, some, apart, h)
 
@@ -103,6 +103,6 @@ sorted_with x es sorted range apart = record {
     between e f low (inl is) = rw (sym is) low
     between e f low (inr i) = let far = behind f i in let some = pow_pos x.range.order in omega arith
 
--- one more at the place that so many come before
+-- an entry more, behind all that begin below it
 pub put_in_is : (x : Entry) (es : List Entry) → IsRising es → insert es (length (filter (is_below x.range.base) es)) x ≡ put_in x es
 put_in_is x es rising = let s = split x.range.base es rising in rw (s.first, s.rest) refl

@@ -41,7 +41,7 @@ impl Cache {
         }
     }
 
-    /// The key of a range that is remembered and has a place.
+    /// The key of a range that is remembered and has `place`.
     pub(crate) fn find(&self, place: u32) -> Option<u32>
         ensures { result ≡ option_map key_of_place (find (spans place) self.now) }
     {
@@ -53,7 +53,7 @@ impl Cache {
         None
     }
 
-    /// Remembers one more, in the place of the one that was looked up first where all are taken.
+    /// Remembers `place`, in the place of the range that was looked up first where all are taken.
     pub(crate) fn note(&mut self, place: Place)
         ensures { self.new ≡ noted place self.old }
     {
@@ -63,7 +63,7 @@ impl Cache {
         self.places.push(place);
     }
 
-    /// Forgets the ranges of a base.
+    /// Forgets the ranges of `base`.
     pub(crate) fn forget(&mut self, base: u32)
         ensures { self.new ≡ filter (λ p. not (begins_at base p)) self.old }
     {

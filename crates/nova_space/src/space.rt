@@ -30,7 +30,7 @@ impl Model for Space {
     ghost invariant = { λ s. IsSorted s.items.items × (AreOf s.items.items s.cache × (vec_len s.items + s.spare ≤ vec_capacity s.items)) };
 }
 
-/// The first place after a range, at most 2^20.
+/// The first place after `range`, at most 2^20.
 fn end(range: Range) -> u32
     requires { IsRange range }
     ensures { result ≡ end_of range }
@@ -38,7 +38,7 @@ fn end(range: Range) -> u32
     range.base + (1 << range.order)
 }
 
-/// An entry as it is remembered.
+/// The entry `e` as it is remembered.
 fn place_of(e: Entry) -> Place
     requires { IsRange e.range }
     ensures { result ≡ place_of e }
@@ -51,7 +51,7 @@ fn place_of(e: Entry) -> Place
 }
 
 impl Space {
-    /// How many ranges begin before a base.
+    /// How many ranges begin before `base`.
     fn count_below(&self, base: u32) -> usize
         ensures count { result ≡ length (filter (is_below base) self.now.entries) }
         ensures bound { result ≤ length self.now.entries }
@@ -59,7 +59,7 @@ impl Space {
         self.items.partition_point(|e| e.range.base < base)
     }
 
-    /// The key of the range before which so many stand, if it is of this base.
+    /// The key of the entry with index `at`, if its range begins at `base`.
     fn key_of_base(&self, at: usize, base: u32) -> Option<u32>
         ensures key { result ≡ option_map key_of (of_base base (slice_get self.now.entries at)) }
         ensures within { IfSome result (λ key. at < length self.now.entries) }
@@ -70,7 +70,7 @@ impl Space {
         }
     }
 
-    /// The first range that has a place at or after the given one.
+    /// The first range that has a place at or after `place`.
     fn first_at(&self, place: u32) -> Option<Entry>
         ensures first { result ≡ find (ends_after place) self.now.entries }
         ensures sound { IsSorted self.now.entries }

@@ -1,11 +1,11 @@
--- Who paid and who acted in the turns of a part of a run, in slices.
+-- The payers and actors of the turns of a part of a run, in slices.
 use Rattle.std.specs.Prelude.{ℕ, ◌+◌, ◌-◌, ◌==◌, ◌&&◌, ◌||◌, not, if◌then◌else◌, Bool, true, false, List, [], ◌∷◌, ◌++◌, codes, decimal, flat_map, length, Option, Some, None, count_by, find, position, reverse, take_while, unwrap_or}
 use Rattle.law_forest.specs.Turns.{is_passing}
 use Rattle.nova_model.specs.declared.event.Event.{Event}
 use Rattle.nova_report.specs.Words.{line_feed}
 use Rattle.nova_telling.specs.declared.slices.Slice.{Slice}
 
--- who pays for a turn, and who acts in it; nobody where a deadline or an alarm comes, or the clock alone goes on
+-- the scheduling context that pays for a turn, and the context that acts in it; none where a deadline or an alarm comes, or the clock alone goes on
 abbrev pub who : Event → Option (ℕ × ℕ)
 who e = if is_passing e.kind then None else Some (e.sc, e.ec)
 
@@ -22,7 +22,7 @@ is_of e turn = turn.cpu == e.cpu
 abbrev pub goes_on : Event → Event → Bool
 goes_on e turn = not (is_of e turn) || is_same (who e) (who turn)
 
--- a slice begins with the first turn of a processor, and with each that differs from the one before
+-- a slice begins with the first turn of a processor, and with each that differs from the turn before
 abbrev pub begins_after : Option Event → Event → Bool
 begins_after (Some turn) e = not (is_same (who turn) (who e))
 begins_after None e = true
@@ -54,7 +54,8 @@ slices_after first before (e ∷ turns) = with_slice (begins before e) (slice_of
 abbrev pub slices : ℕ → List Event → List Slice
 slices first turns = slices_after first [] turns
 
--- a slice: its processor, its first and last turn, how many turns of the processor it has, who paid, and who acted
+-- a slice: its processor, its first and last turn, how many turns of the processor it has, the scheduling context that paid, and the context that
+-- acted
 abbrev pub payer_text : Option (ℕ × ℕ) → List ℕ
 payer_text (Some (sc, ec)) = codes " " ++ (decimal sc ++ (codes " " ++ (decimal ec ++ line_feed)))
 payer_text None = codes " - -\n"

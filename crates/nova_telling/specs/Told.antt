@@ -31,7 +31,7 @@ number_text n = codes " " ++ decimal n
 abbrev pub place_line : ℕ → ℕ → List ℕ
 place_line turn turns = codes "turn " ++ (decimal turn ++ (codes " of " ++ (decimal turns ++ line_feed)))
 
--- the instruction that is next: who is about to execute it, in which domain, at which address
+-- the instruction that is next: which context is about to execute it, in which domain, at which address
 abbrev pub instruction_line : Option Next → List ℕ
 instruction_line (Some next) = codes "next " ++ (decimal next.ec ++ (codes " " ++ (decimal next.pd ++ (codes " " ++ (decimal next.pc ++ line_feed)))))
 instruction_line None = codes "next -\n"
@@ -54,7 +54,7 @@ event_after from (i, e) = event_line (from + i) e
 abbrev pub events_text : ℕ → List Event → List ℕ
 events_text from events = flat_map (event_after from) (enumerate_from 0 events)
 
--- the one that an execution context waits for: the handler of its call or exit, or a semaphore
+-- what an execution context waits for: the handler of its call or exit, or a semaphore
 abbrev pub awaited : State → Option ℕ
 awaited (Calling handler) = Some handler
 awaited (Helping handler) = Some handler
@@ -62,7 +62,7 @@ awaited (Sending reason q0 q1 handler) = Some handler
 awaited (Blocked sm) = Some sm
 awaited other = None
 
--- the one that it serves
+-- the caller that it serves
 abbrev pub caller_in : Option (ℕ × Mark) → Option ℕ
 caller_in (Some (caller, mark)) = Some caller
 caller_in None = None
@@ -70,7 +70,7 @@ caller_in None = None
 abbrev pub caller_of : EcState → Option ℕ
 caller_of x = caller_in x.caller
 
--- of an execution context its domain, its processor, its caller and the one that it waits for
+-- of an execution context its domain, its processor, its caller and what it waits for
 abbrev pub context_line : ℕ → ℕ → ℕ → Option EcState → List ℕ
 context_line id pd cpu (Some x) = codes "object " ++ (decimal id ++ (codes " " ++ (decimal pd ++ (codes " " ++ (decimal cpu ++ (codes " "
     ++ (parent_word (caller_of x) ++ (codes " " ++ (parent_word (awaited x.state) ++ line_feed)))))))))
@@ -102,7 +102,7 @@ abbrev pub frame_line : Option (List ℕ) → List ℕ
 frame_line (Some bytes) = codes "bytes " ++ (bytes_text bytes ++ line_feed)
 frame_line None = codes "bytes -\n"
 
--- who waits at a semaphore, in order
+-- the contexts that wait at a semaphore, in order
 abbrev pub numbers_text : List ℕ → List ℕ
 numbers_text ns = flat_map number_text ns
 
@@ -140,7 +140,7 @@ abbrev pub access_line : Option Access → List ℕ
 access_line (Some a) = line_by a a.stored
 access_line None = codes "access -\n"
 
--- what is read of a state, after so many of a run's turns
+-- what is read of a state, after `turn` of a run's turns
 abbrev pub told : KernelState → List Event → ℕ → Reading → List ℕ
 told k events turn Place = place_line turn (length events)
 told k events turn Instruction = instruction_line (next_by k (slice_get events turn))

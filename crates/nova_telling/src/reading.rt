@@ -13,7 +13,7 @@ pub enum Reading {
     Consoles,
     /// The delegations.
     Delegations,
-    /// The domain and the processor of each execution context, and whom it serves and waits for.
+    /// The domain and the processor of each execution context, the caller that it serves, and what it waits for.
     Objects,
     /// The message words of a thread.
     Words(u32),
@@ -21,8 +21,8 @@ pub enum Reading {
     Frame(u32),
     /// The events of the turns from one on, before another.
     Events(u32, u32),
-    /// Who paid and who acted in the turns from one on, before another, in slices.
+    /// The payers and actors of the turns from one on, before another, in slices.
     Slices(u32, u32),
-    /// Who waits at a semaphore, in order.
+    /// The execution contexts that wait at a semaphore, in order.
     Queue(u32),
 }

@@ -5,8 +5,8 @@ use nova_kernel::Event;
 use nova_recording::is_passing;
 use std::alloc::AllocError;
 
-/// Turns of a processor, one after another, which the same scheduling context pays and in which the same execution context acts: the
-/// numbers of the first and the last of them, how many they are, and who pays and acts.
+/// Turns of a processor, one after another, which the same scheduling context pays and in which the same execution context acts. It has the numbers
+/// of the first and the last of them, how many they are, and what pays and acts.
 #[derive(Clone, Copy)]
 pub struct Slice {
     pub cpu: u32,
@@ -16,7 +16,8 @@ pub struct Slice {
     pub payer: Option<(u32, u32)>,
 }
 
-/// Who pays for a turn, and who acts in it; nobody where a deadline or an alarm comes, or the clock alone goes on.
+/// The scheduling context that pays for the turn of `event`, and the execution context that acts in it; none where a deadline or an alarm comes, or
+/// the clock alone goes on.
 fn who(event: Event) -> Option<(u32, u32)>
     ensures { result ≡ who event }
 {
@@ -36,21 +37,21 @@ fn is_same(one: Option<(u32, u32)>, other: Option<(u32, u32)>) -> bool
     }
 }
 
-/// Whether a turn is not one of the same processor in which another pays or acts.
+/// Whether `turn` is not one of the processor of `event` in which another pays or acts.
 fn goes_on(event: Event, turn: Event) -> bool
     ensures { result ≡ goes_on event turn }
 {
     turn.cpu != event.cpu || is_same(who(event), who(turn))
 }
 
-/// The last of some turns that is of the same processor.
+/// The last of `before` that is of the processor of `event`.
 fn previous(before: &[Event], event: Event) -> Option<&Event>
     ensures { option_map (λ e. e.now) result ≡ find (is_of event) (reverse before.now) }
 {
     before.iter().rev().find(|turn| turn.cpu == event.cpu)
 }
 
-/// Whether a slice begins with a turn.
+/// Whether a slice begins with the turn `event`, after `before`.
 fn begins(before: &[Event], event: Event) -> bool
     ensures { result ≡ begins before.now event }
 {
@@ -60,7 +61,7 @@ fn begins(before: &[Event], event: Event) -> bool
     }
 }
 
-/// How many turns come before the next of the same processor in which another pays or acts.
+/// How many of `turns` come before the next of the processor of `event` in which another pays or acts.
 fn count_going_on(event: Event, turns: &[Event]) -> usize
     ensures { result ≡ length (take_while (goes_on event) turns.now) }
 {
@@ -70,7 +71,7 @@ fn count_going_on(event: Event, turns: &[Event]) -> usize
         .count()
 }
 
-/// The turns before the next of the same processor in which another pays or acts.
+/// The part of `turns` before the next of the processor of `event` in which another pays or acts.
 fn going_on(event: Event, turns: &[Event]) -> &[Event]
     ensures { result.now ≡ take_while (goes_on event) turns.now }
 {
@@ -78,21 +79,21 @@ fn going_on(event: Event, turns: &[Event]) -> &[Event]
     turns.split_at(end).0
 }
 
-/// How many turns are of the same processor.
+/// How many of `turns` are of the processor of `event`.
 fn count_of(event: Event, turns: &[Event]) -> usize
     ensures { result ≡ count_by (is_of event) turns.now }
 {
     turns.iter().filter(|turn| turn.cpu == event.cpu).count()
 }
 
-/// How many turns of others come after the last of the same processor.
+/// How many of `turns` come after the last of the processor of `event`.
 fn after_last(event: Event, turns: &[Event]) -> Option<usize>
     ensures { result ≡ position (is_of event) (reverse turns.now) }
 {
     turns.iter().rev().position(|turn| turn.cpu == event.cpu)
 }
 
-/// How far the last turn of the same processor is.
+/// How far the last of `turns` of the processor of `event` is.
 fn last_of(event: Event, turns: &[Event]) -> usize
     ensures within { result ≤ length turns.now }
     ensures last { result ≡ last_of event turns.now }

@@ -46,7 +46,7 @@ fn write_event(out: &mut String, place: usize, event: Event) -> Result<(), Alloc
     writeln!(out, "event {place} {cpu} {sc} {ec} {word} {a} {b}")
 }
 
-/// The events of the turns from one on, before another.
+/// The events of the turns from `from` on, before `to`.
 fn events_between(events: &[Event], from: usize, to: usize) -> &[Event]
     ensures between { result.now ≡ events_between events.now from to }
     ensures fits { length result.now < 2 ^ 63 }
@@ -76,7 +76,7 @@ fn write_option(out: &mut String, number: Option<u32>) -> Result<(), AllocError>
     }
 }
 
-/// Whom an execution context waits for: the handler of its call or exit, or a semaphore.
+/// What an execution context in `state` waits for: the handler of its call or exit, or a semaphore.
 fn awaited(state: State) -> Option<u32>
     ensures { result ≡ awaited state }
 {
@@ -89,7 +89,7 @@ fn awaited(state: State) -> Option<u32>
     }
 }
 
-/// Whom an execution context serves.
+/// The caller that `context` serves.
 fn caller_of(context: &EcState) -> Option<u32>
     ensures { result ≡ caller_of context.now }
 {
@@ -99,7 +99,7 @@ fn caller_of(context: &EcState) -> Option<u32>
     }
 }
 
-/// The caller and the one that an execution context waits for, at the end of its line.
+/// Writes the caller of an execution context and what it waits for, at the end of its line.
 fn write_edges(
     out: &mut String,
     caller: Option<u32>,
@@ -229,7 +229,7 @@ fn write_queue(out: &mut String, queue: &[u32]) -> Result<(), AllocError>
     out.push_str("\n")
 }
 
-/// What a page leads to: a frame, and the rights there.
+/// Writes what `page` leads to: a frame, and the rights there.
 pub fn write_page(out: &mut String, page: Option<(u32, u8)>) -> Result<(), AllocError>
     ensures { OnOk result (string_bytes out.new ≡ string_bytes out.old ++ page_line page) }
 {
@@ -273,7 +273,7 @@ fn write_store(
     }
 }
 
-/// Writes what a turn loads or stores: the address, how many bytes, the frame and the offset there, and the number that is stored.
+/// Writes `access`, what a turn loads or stores: the address, how many bytes, the frame and the offset there, and the number that is stored.
 pub fn write_access(out: &mut String, access: Option<Access>) -> Result<(), AllocError>
     ensures { OnOk result (string_bytes out.new ≡ string_bytes out.old ++ access_line access) }
 {
@@ -292,7 +292,7 @@ pub fn write_access(out: &mut String, access: Option<Access>) -> Result<(), Allo
     }
 }
 
-/// The text of an instruction's word, as the assembler has it.
+/// Writes the text of the instruction `word`, as the assembler has it.
 pub fn write_code(alloc: Global, out: &mut String, word: u32) -> Result<(), AllocError>
     ensures { OnOk result (string_bytes out.new ≡ string_bytes out.old ++ code_line (instr_of word)) }
 {
@@ -305,7 +305,8 @@ pub fn write_code(alloc: Global, out: &mut String, word: u32) -> Result<(), Allo
     }
 }
 
-/// Tells something of a run in its present state, which is that after the first so many entries of its order.
+/// Tells in `out` what `reading` asks of `recording` in its present state, which is that after the first
+/// entries of its order, as many as its turn says.
 pub fn tell(
     alloc: Global,
     out: &mut String,

@@ -38,7 +38,7 @@ module _ (radix : ℕ) (bound : radix ≤ 36) where
   numeral-unsigned [] is = refl
   numeral-unsigned (d ∷ ds) is = without_leading_plus_none (d ∷ ds) (digit_not_plus d (grind arith))
 
-  -- what std answers for a numeral below 2 ^ 32, and for one that is not
+  -- what std answers for a numeral below 2 ^ 32, and for a numeral that is not
   u32_of-small : (n : ℕ) → n < 2 ^ 32 → Ok n ≡ u32_of (Some n)
   u32_of-small n small = grind arith
 

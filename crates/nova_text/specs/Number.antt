@@ -28,7 +28,7 @@ abbrev pub u32_of : Option ℕ → Result ℕ NumberError
 u32_of None = Err Malformed
 u32_of (Some n) = if nat_lt n (2 ^ 32) then Ok n else Err TooLarge
 
--- the one that a word writes; the numbers of words, where each writes one
+-- the number that a word writes; the numbers of words, where each writes one
 abbrev pub number_of : List ℕ → Option ℕ
 number_of word = result_ok (u32_of (number word))
 

@@ -2,14 +2,14 @@ ghost use Rattle.std.specs.Prelude.{◌≡◌, ◌≤◌, not, length};
 ghost use Rattle.std.specs.List.{before_first, after_first, position_or_len};
 ghost use Rattle.nova_text.specs.Bytes.{is_separator, is_line_feed, is_allowed, ends_token, before_comment, has_forbidden};
 
-/// Whether a byte stands between tokens: space, tab or carriage return.
+/// Whether `byte` stands between tokens: space, tab or carriage return.
 pub fn is_separator(byte: u8) -> bool
     ensures { result ≡ is_separator byte }
 {
     matches!(byte, b' ' | b'\t' | b'\r')
 }
 
-/// The bytes of a line before its comment, which runs from `#` to the end.
+/// The bytes of `line` before its comment, which runs from `#` to the end.
 pub fn before_comment(line: &[u8]) -> &[u8]
     ensures { result.now ≡ before_comment line.now }
 {
@@ -21,14 +21,14 @@ pub fn before_comment(line: &[u8]) -> &[u8]
     before
 }
 
-/// Whether a byte may stand before a comment.
+/// Whether `byte` may stand before a comment.
 fn is_allowed(byte: u8) -> bool
     ensures { result ≡ is_allowed byte }
 {
     byte.is_ascii_graphic() || is_separator(byte)
 }
 
-/// Whether a byte other than printable ASCII, space, tab and carriage return stands in a line before its comment.
+/// Whether a byte other than printable ASCII, space, tab and carriage return stands in `line` before its comment.
 #[tactic(auto, unfolding(crate::specs::Bytes::has_forbidden))]
 pub fn has_forbidden(line: &[u8]) -> bool
     ensures { result ≡ has_forbidden line.now }
@@ -36,7 +36,7 @@ pub fn has_forbidden(line: &[u8]) -> bool
     before_comment(line).iter().any(|&byte| !is_allowed(byte))
 }
 
-/// The bytes before the first line feed and those after it; all and none where there is no line feed.
+/// The part of `bytes` before the first line feed and that after it; all and none where there is no line feed.
 pub(crate) fn split_line(bytes: &[u8]) -> (&[u8], &[u8])
     ensures line { result.0.now ≡ before_first is_line_feed bytes.now }
     ensures after { result.1.now ≡ after_first is_line_feed bytes.now }
@@ -48,7 +48,7 @@ pub(crate) fn split_line(bytes: &[u8]) -> (&[u8], &[u8])
     }
 }
 
-/// How many bytes stand before the first line feed, or all where there is none.
+/// How many of `bytes` stand before the first line feed, or all where there is none.
 fn line_len(bytes: &[u8]) -> usize
     ensures len { result ≡ position_or_len is_line_feed bytes.now }
     ensures within { result ≤ length bytes.now }
@@ -59,7 +59,7 @@ fn line_len(bytes: &[u8]) -> usize
         .unwrap_or(bytes.len())
 }
 
-/// How many separators stand in front.
+/// How many separators stand in front in `bytes`.
 pub(crate) fn gap_len(bytes: &[u8]) -> usize
     ensures len { result ≡ position_or_len (λ b. not (is_separator b)) bytes.now }
     ensures within { result ≤ length bytes.now }
@@ -70,7 +70,7 @@ pub(crate) fn gap_len(bytes: &[u8]) -> usize
         .unwrap_or(bytes.len())
 }
 
-/// How many bytes stand in front before the token that they are of ends.
+/// How many of `bytes` stand in front before the token that they are of ends.
 pub(crate) fn token_len(bytes: &[u8]) -> usize
     ensures len { result ≡ position_or_len ends_token bytes.now }
     ensures within { result ≤ length bytes.now }

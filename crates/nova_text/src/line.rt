@@ -15,7 +15,7 @@ pub struct Line<'a> {
     /// The bytes that are left.
     pub text: &'a [u8],
 
-    // Each line in front of this one has at least its line feed.
+    // Each line in front of this line has at least its line feed.
     ghost counted: { number ≤ start + 1 },
 
     // No slice is longer than `isize::MAX`.

@@ -26,7 +26,7 @@ impl<'a> Lines<'a> {
     ghost use Rattle.nova_text.specs.Line.{lines, piece_of_row};
     ghost use Rattle.nova_text.specs.Piece.{AreSlicesBetween};
 
-    /// All lines of a text, numbered from 1.
+    /// All lines of the text `bytes`, numbered from 1.
     #[tactic(auto, unfolding(crate::specs::Line::lines))]
     pub fn new(bytes: &'a [u8]) -> Lines<'a>
         ensures lines { result ≡ lines bytes.now }

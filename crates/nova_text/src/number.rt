@@ -69,7 +69,7 @@ impl fmt::Display for NumberFault {
 
 impl Error for NumberFault {}
 
-/// One or more digits, and nothing else.
+/// Whether `digits` are one or more digits of the base `radix`, and nothing else.
 fn is_numeral(digits: &[u8], radix: u32) -> bool
     requires lower_bound { 2 ≤ radix }
     requires upper_bound { radix ≤ 36 }
@@ -81,7 +81,7 @@ fn is_numeral(digits: &[u8], radix: u32) -> bool
             .all(|&digit| char::from(digit).is_digit(radix))
 }
 
-/// Reads the number of a token: decimal digits, or `0x` and hexadecimal digits of either case. Zeros may stand in front.
+/// Reads the number of `token`: decimal digits, or `0x` and hexadecimal digits of either case. Zeros may stand in front.
 ///
 /// `Malformed` comes exactly where the token is neither, and `TooLarge` exactly where its number is 2^32 or more.
 #[tactic(auto, unfolding(crate::specs::Number::number))]
@@ -94,7 +94,7 @@ pub fn parse_number(token: &[u8]) -> Result<u32, NumberError>
     }
 }
 
-/// Reads the number that one or more digits of the base `radix` write, with letters of either case above 9.
+/// Reads the number that `digits`, one or more of the base `radix`, write, with letters of either case above 9.
 ///
 /// `Malformed` comes exactly where there is no digit or another byte, and `TooLarge` exactly where the number is 2^32 or more.
 pub fn parse_digits(digits: &[u8], radix: u32) -> Result<u32, NumberError>
@@ -111,7 +111,7 @@ pub fn parse_digits(digits: &[u8], radix: u32) -> Result<u32, NumberError>
     }
 }
 
-/// Reads the number of a token at `span`, as `parse_number` does.
+/// Reads the number of `token` at `span`, as `parse_number` does.
 ///
 /// `BadToken` comes exactly where the token is no number, and `TooLarge` exactly where its number is 2^32 or more.
 pub fn read_number(token: &[u8], span: Span) -> Result<u32, NumberFault>

@@ -143,7 +143,7 @@ times_wider ps qs t clocks src are wider = record {
   listed = are.listed;
 }
 
--- a deadline of another processor is none of this one
+-- a deadline of another processor is none of `cpu`
 none_of_other : (cpu other n : ℕ) (d : Option Deadline) → IsOf cpu d → (other ≡ cpu → ⊥) → deadline_leaf other n d ≡ None
 none_of_other cpu other n None its off = refl
 none_of_other cpu other n (Some d) its off =
@@ -192,7 +192,7 @@ times_put ps qs t clocks src cpu ec d are lt before after place changed = record
 
 -- ALARMS
 
--- in the list of alarms one is another one now, of the same processor, or has been added
+-- in the list of alarms one alarm has changed, on the same processor, or has been added
 pub record IsAlarmChange (n : ℕ) (a : AlarmState) (old new : List AlarmState) : Type 0 where
   pub at : slice_get new n ≡ Some a
   pub others : (m : ℕ) → (m ≡ n → ⊥) → slice_get new m ≡ slice_get old m

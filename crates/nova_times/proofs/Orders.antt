@@ -9,7 +9,7 @@ use Rattle.nova_times.specs.declared.entry.Entry.{Entry}
 pub not_itself : (a : Entry) → precedes a a ≡ false
 not_itself a = grind arith
 
--- by a first number, and then by what follows: what isn't behind one that isn't behind a third isn't behind that either
+-- by a first number, and then by what follows: what isn't behind a second, which isn't behind a third, isn't behind the third either
 back_then : (a b c : ℕ) (p q r : Bool) → (p ≡ false → q ≡ false → r ≡ false) → (nat_lt b a || ((b == a) && p)) ≡ false → (nat_lt c b || ((c == b) && q)) ≡ false →
     (nat_lt c a || ((c == a) && r)) ≡ false
 back_then a b c false false r next h k = let last = next refl refl in grind (arith, h, k, last)
@@ -79,7 +79,7 @@ equal a b h k =
 
 -- NO LATER
 
--- one is there, and another does not precede it
+-- an entry is there, and another does not precede it
 abbrev pub NoLater : Option Entry → Entry → Type 0
 NoLater None e = ⊥
 NoLater (Some q) e = precedes e q ≡ false

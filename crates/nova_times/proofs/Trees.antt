@@ -166,7 +166,7 @@ node_set_other inner leaves i j e off lt = by_side (nat_lt j (length inner)) ref
 children_other : (inner leaves : List (Option Entry)) (i j : ℕ) (e : Option Entry) → (2 * j ≡ i → ⊥) → (2 * j + 1 ≡ i → ⊥) → i < length inner → of_children (slice_set inner i e) leaves j ≡ of_children inner leaves j
 children_other inner leaves i j e left right lt = ap₂ lesser (node_set_other inner leaves i (2 * j) e left lt) (node_set_other inner leaves i (2 * j + 1) e right lt)
 
--- a node is mended: only the one above may be odd now
+-- a node is mended: only the node above may be odd now
 pub settled : (inner leaves : List (Option Entry)) (i : ℕ) → 1 ≤ i → i < length inner → IsTreeBut i inner leaves → IsTreeBut (i / 2) (slice_set inner i (of_children inner leaves i)) leaves
 settled inner leaves i low lt tree = record {
   size = tree.size ∙ sym (length_leaves inner i (of_children inner leaves i));
@@ -211,7 +211,7 @@ built inner leaves i low le tree =
 pub all_built : (inner leaves : List (Option Entry)) (i : ℕ) → i ≤ 1 → IsTreeFrom i inner leaves → IsTree inner leaves
 all_built inner leaves i le tree = record { size = tree.size; each = λ j one lt. tree.each j (omega arith) one lt }
 
--- a leaf is another one: only the node above it may be odd
+-- a leaf has changed: only the node above it may be odd
 pub put_in : (inner leaves : List (Option Entry)) (n : ℕ) (e : Option Entry) → n < length leaves → IsTree inner leaves → IsTreeBut ((length leaves + n) / 2) inner (slice_set leaves n e)
 put_in inner leaves n e lt tree = record {
   size = length_leaves leaves n e ∙ tree.size;

@@ -20,7 +20,7 @@ comes_first a b = nat_lt (rank a) (rank b) || ((rank a == rank b) && nat_lt (num
 abbrev pub precedes : Entry → Entry → Bool
 precedes a b = nat_lt a.at b.at || ((a.at == b.at) && comes_first a.due b.due)
 
--- of two, if they are there, the one that no other precedes
+-- of two entries, if they are there, that which the other doesn't precede
 abbrev pub lesser : Option Entry → Option Entry → Option Entry
 lesser None b = b
 lesser (Some a) None = Some a

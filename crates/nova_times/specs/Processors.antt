@@ -48,7 +48,7 @@ pub record AreWider (old new : List ProcessorState) : Type 0 where
   pub count : length new ≡ length old
   pub each : (cpu : ℕ) → IsWider (processor_at old cpu) (processor_at new cpu)
 
--- there is room for so many alarms and deadlines
+-- there is room for `alarms` alarms and for deadlines of `contexts` contexts
 pub record HasPlaces (alarms contexts : ℕ) (p : ProcessorState) : Type 0 where
   pub of_alarms : alarms ≤ length p.alarms
   pub of_deadlines : contexts ≤ length p.deadlines
@@ -56,7 +56,7 @@ pub record HasPlaces (alarms contexts : ℕ) (p : ProcessorState) : Type 0 where
 pub record HavePlaces (alarms contexts : ℕ) (before : ℕ) (ps : List ProcessorState) : Type 0 where
   pub each : (cpu : ℕ) → cpu < before → HasPlaces alarms contexts (processor_at ps cpu)
 
--- one processor is another one now, with the same clock
+-- one processor has changed, with the same clock
 pub record AreChanged (cpu : ℕ) (p : ProcessorState) (old new : List ProcessorState) : Type 0 where
   pub count : length new ≡ length old
   pub clocks : clocks_of new ≡ clocks_of old

@@ -8,7 +8,7 @@ use Rattle.nova_times.specs.declared.entry.Entry.{Entry}
 abbrev pub leaf : List (Option Entry) → ℕ → Option Entry
 leaf xs n = entry (slice_get xs n)
 
--- of all, the one that no other precedes
+-- of all, the entry that no other precedes
 abbrev pub least_of : List (Option Entry) → Option Entry
 least_of [] = None
 least_of (x ∷ xs) = lesser x (least_of xs)

@@ -10,7 +10,7 @@ pub(crate) struct Entry {
     pub(crate) due: Due,
 }
 
-/// At equal moments an alarm comes before a deadline.
+/// The rank of what is due at a moment: an alarm comes before a deadline.
 fn rank(due: Due) -> u32
     ensures { result ≡ rank due }
 {
@@ -20,7 +20,7 @@ fn rank(due: Due) -> u32
     }
 }
 
-/// The number of the alarm or of the execution context.
+/// The number of the alarm or of the execution context of `due`.
 fn number(due: Due) -> u32
     ensures { result ≡ number due }
 {
@@ -30,7 +30,7 @@ fn number(due: Due) -> u32
     }
 }
 
-/// Whether the first comes before the second: the lesser moment, then an alarm, then the lesser number.
+/// Whether `a` comes before `b`: the lesser moment, then an alarm, then the lesser number.
 fn precedes(a: &Entry, b: &Entry) -> bool
     ensures { result ≡ precedes a.now b.now }
 {
@@ -44,7 +44,7 @@ fn precedes(a: &Entry, b: &Entry) -> bool
     number(a.due) < number(b.due)
 }
 
-/// The one of two that comes before the other; the one that is there, if it is alone.
+/// Which of `a` and `b` comes before the other; if only one is there, that one.
 pub(crate) fn lesser(a: Option<Entry>, b: Option<Entry>) -> Option<Entry>
     ensures { result ≡ lesser a b }
 {

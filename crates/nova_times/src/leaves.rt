@@ -6,14 +6,14 @@ ghost use Rattle.nova_times.specs.Trees.{least_of};
 use crate::entry::{Entry, lesser};
 use nova_model::{AlarmState, Deadline, Due};
 
-/// Whether an alarm hasn't ended.
+/// Whether the alarm of `state` hasn't ended.
 fn goes_on(state: &AlarmState) -> bool
     ensures { result ≡ goes_on state.now }
 {
     state.rings < state.alarm.count
 }
 
-/// The entry on a processor of an alarm that hasn't ended.
+/// The entry on the processor `cpu` of an alarm that hasn't ended.
 pub(crate) fn alarm_entry(cpu: u32, number: u32, state: &AlarmState) -> Option<Entry>
     ensures { result ≡ alarm_leaf cpu number (Some state.now) }
 {
@@ -27,7 +27,7 @@ pub(crate) fn alarm_entry(cpu: u32, number: u32, state: &AlarmState) -> Option<E
     }
 }
 
-/// The entry on a processor of the deadline of an execution context.
+/// The entry on the processor `cpu` of the deadline of the execution context `ec`.
 pub(crate) fn deadline_entry(cpu: u32, ec: u32, deadline: Option<Deadline>) -> Option<Entry>
     ensures { result ≡ deadline_leaf cpu ec deadline }
 {
@@ -42,7 +42,7 @@ pub(crate) fn deadline_entry(cpu: u32, ec: u32, deadline: Option<Deadline>) -> O
     }
 }
 
-/// The first alarm of a processor, by a search.
+/// The first alarm of the processor `cpu`, by a search.
 pub(crate) fn least_alarm(alarms: &[AlarmState], cpu: u32) -> Option<Entry>
     requires { length alarms.now ≤ 2 ^ 32 }
     ensures { result ≡ least_of (alarm_leaves cpu 0 alarms.now) }
@@ -56,7 +56,7 @@ pub(crate) fn least_alarm(alarms: &[AlarmState], cpu: u32) -> Option<Entry>
     least
 }
 
-/// The first deadline of a processor, by a search.
+/// The first deadline of the processor `cpu`, by a search.
 pub(crate) fn least_deadline(deadlines: &[Option<Deadline>], cpu: u32) -> Option<Entry>
     requires { length deadlines.now ≤ 2 ^ 32 }
     ensures { result ≡ least_of (deadline_leaves cpu 0 deadlines.now) }

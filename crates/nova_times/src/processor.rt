@@ -27,7 +27,7 @@ impl Model for Processor {
     ghost invariant = { λ p. p.least ≡ moment_of (first_of p.alarms p.deadlines) };
 }
 
-/// The least moment of alarms and deadlines.
+/// The least moment of `alarms` and `deadlines`.
 fn least_moment(alarms: &Tree, deadlines: &Tree) -> Option<u64>
     ensures { result ≡ moment_of (first_of alarms.now deadlines.now) }
 {
@@ -47,7 +47,7 @@ impl Processor {
         }
     }
 
-    /// Makes places for alarms and deadlines before such numbers. Where memory runs out, there may be more places.
+    /// Makes places for alarms and deadlines of numbers below `alarms` and `deadlines`. Where memory runs out, there may be more places.
     fn reserve(&mut self, alarms: usize, deadlines: usize) -> Result<(), AllocError>
         requires alarms { alarms ≤ 2 ^ 32 }
         requires deadlines { deadlines ≤ 2 ^ 32 }
@@ -67,7 +67,7 @@ impl Processor {
         self.clock
     }
 
-    /// The clock goes on by so many turns.
+    /// Puts the clock on by `count` turns.
     #[inline(always)]
     pub(crate) fn pass(&mut self, count: u64)
         requires { self.old.clock + count < 2 ^ 64 }
@@ -102,7 +102,7 @@ impl Processor {
         }
     }
 
-    /// The entry of an alarm that has a place comes or goes.
+    /// Sets or clears the entry of alarm `n`, which has a place, to `e`.
     fn put_alarm(&mut self, n: u32, e: Option<Entry>)
         requires { n < length self.old.alarms }
         ensures { self.new ≡ record self.old { alarms = slice_set self.old.alarms n e } }
@@ -111,7 +111,7 @@ impl Processor {
         self.least = least_moment(&self.alarms, &self.deadlines);
     }
 
-    /// The entry of a deadline that has a place comes or goes.
+    /// Sets or clears the entry of the deadline of `ec`, which has a place, to `e`.
     fn put_deadline(&mut self, ec: u32, e: Option<Entry>)
         requires { ec < length self.old.deadlines }
         ensures { self.new ≡ record self.old { deadlines = slice_set self.old.deadlines ec e } }
@@ -120,7 +120,7 @@ impl Processor {
         self.least = least_moment(&self.alarms, &self.deadlines);
     }
 
-    /// The same once more.
+    /// Copies the clock and entries of the processor.
     fn copy(&self, alloc: Global) -> Result<Processor, AllocError>
         ensures { IfOk result (λ p. p ≡ self.now) }
     {
@@ -135,7 +135,7 @@ impl Processor {
     }
 }
 
-/// Processors whose clocks stand at 0, without entries.
+/// `cpus` processors whose clocks stand at 0, without entries.
 pub(crate) fn new(alloc: Global, cpus: u32) -> Result<Vec<Processor>, AllocError>
     ensures { IfOk result (λ v. v.items ≡ replicate cpus new_processor) }
 {
@@ -146,7 +146,7 @@ pub(crate) fn new(alloc: Global, cpus: u32) -> Result<Vec<Processor>, AllocError
     Ok(processors)
 }
 
-/// Makes places on each processor for alarms and deadlines before such numbers. Where memory runs out, there may be more
+/// Makes places on each of `processors` for alarms and deadlines of numbers below `alarms` and `deadlines`. Where memory runs out, there may be more
 /// places.
 pub(crate) fn reserve(
     processors: &mut Vec<Processor>,
@@ -165,7 +165,7 @@ pub(crate) fn reserve(
     Ok(())
 }
 
-/// The entry of an alarm that has a place comes or goes, if its processor is there.
+/// Sets or clears the entry of alarm `n`, which has a place, to `e`, if the processor `cpu` is there.
 pub(crate) fn put_alarm(processors: &mut Vec<Processor>, cpu: u32, n: u32, e: Option<Entry>)
     requires { cpu < length processors.old.items → n < length (processor_at processors.old.items cpu).alarms }
     ensures { AreChanged cpu (record (processor_at processors.old.items cpu) { alarms = slice_set (processor_at processors.old.items cpu).alarms n e }) processors.old.items processors.new.items }
@@ -175,7 +175,7 @@ pub(crate) fn put_alarm(processors: &mut Vec<Processor>, cpu: u32, n: u32, e: Op
     }
 }
 
-/// The entry of a deadline that has a place comes or goes, if its processor is there.
+/// Sets or clears the entry of the deadline of `ec`, which has a place, to `e`, if the processor `cpu` is there.
 pub(crate) fn put_deadline(processors: &mut Vec<Processor>, cpu: u32, ec: u32, e: Option<Entry>)
     requires { cpu < length processors.old.items → ec < length (processor_at processors.old.items cpu).deadlines }
     ensures { AreChanged cpu (record (processor_at processors.old.items cpu) { deadlines = slice_set (processor_at processors.old.items cpu).deadlines ec e }) processors.old.items processors.new.items }
@@ -185,7 +185,7 @@ pub(crate) fn put_deadline(processors: &mut Vec<Processor>, cpu: u32, ec: u32, e
     }
 }
 
-/// The processors once more.
+/// Copies `processors`.
 pub(crate) fn copies(alloc: Global, processors: &[Processor]) -> Result<Vec<Processor>, AllocError>
     ensures { IfOk result (λ v. v.items ≡ processors.now) }
 {

@@ -43,7 +43,7 @@ impl Model for Times {
         × ((t.contexts ≤ vec_capacity t.deadlines) × ((length t.alarms.items + t.spare ≤ vec_capacity t.alarms) × (length t.alarms.items + t.spare ≤ vec_capacity t.sources)))) };
 }
 
-/// An alarm that has rung: its next moment is a period later.
+/// The alarm of `state` when it has rung: its next moment is a period later.
 fn rung_once(state: &AlarmState) -> AlarmState
     requires on { goes_on state.now ≡ true }
     requires last { state.now.next + (state.now.alarm.count - state.now.rings) * state.now.alarm.period < 2 ^ 64 }
@@ -57,7 +57,7 @@ fn rung_once(state: &AlarmState) -> AlarmState
 }
 
 impl Times {
-    /// Clocks at 0 of so many processors, and nothing to come.
+    /// The clocks of `cpus` processors at 0, and nothing to come.
     pub fn new(alloc: Global, cpus: u32) -> Result<Times, AllocError>
         ensures { IfOk result (λ t. t.all ≡ record { clocks = replicate cpus 0; deadlines = []; alarms = [] }) }
     {
@@ -71,7 +71,7 @@ impl Times {
         })
     }
 
-    /// The clock of a processor; 0 of one that isn't there.
+    /// The clock of the processor `cpu`, in turns; 0 where there is no such processor.
     pub fn clock(&self, cpu: u32) -> u64
         ensures { result ≡ clock self.now.all cpu }
     {
@@ -81,7 +81,7 @@ impl Times {
         }
     }
 
-    /// The clock of a processor goes on.
+    /// Puts the clock of the processor `cpu` on by one turn.
     #[inline(always)]
     pub fn tick(&mut self, cpu: u32)
         requires there { cpu < length self.old.all.clocks }
@@ -91,7 +91,7 @@ impl Times {
         self.pass(cpu, 1);
     }
 
-    /// The clock of a processor goes on by so many turns at once.
+    /// Puts the clock of the processor `cpu` on by `count` turns at once.
     #[inline(always)]
     pub fn pass(&mut self, cpu: u32, count: u64)
         requires there { cpu < length self.old.all.clocks }
@@ -122,7 +122,7 @@ impl Times {
         Ok(())
     }
 
-    /// One number more, in room that was made, without a deadline.
+    /// Adds the next number, in room that was made, without a deadline.
     pub fn add(&mut self)
         requires { length self.old.all.deadlines < self.old.contexts }
         ensures { self.new ≡ record self.old { all = grown self.old.all } }
@@ -130,14 +130,14 @@ impl Times {
         self.deadlines.push_reserved(None);
     }
 
-    /// The deadline of an execution context, if it has one.
+    /// The deadline of the execution context `ec`, if it has one.
     pub fn deadline(&self, ec: u32) -> Option<Deadline>
         ensures { result ≡ deadline_of self.now.all ec }
     {
         *self.deadlines.get(ec as usize)?
     }
 
-    /// The deadline of an execution context whose number is there comes or goes; it is of the processor, before and after.
+    /// Sets or clears the deadline of the execution context `ec`, whose number is there; it is of the processor `cpu`, before and after.
     fn put_deadline(&mut self, ec: u32, cpu: u32, deadline: Option<Deadline>)
         requires there { ec < length self.old.all.deadlines }
         requires before { IsOf cpu (deadline_of self.old.all ec) }
@@ -149,8 +149,8 @@ impl Times {
         self.deadlines[ec as usize] = deadline;
     }
 
-    /// Sets the deadline of an execution context, in place of one that it has: a semaphore, and a moment on the clock of a
-    /// processor. Nothing changes where there is no such number. It takes no memory.
+    /// Sets the deadline of the execution context `ec`, in place of any that it has: at the semaphore `sm`, at the moment `at` on the clock of the
+    /// processor `cpu`. Nothing changes where there is no such number. It takes no memory.
     #[tactic(auto, using(crate::proofs::Keeping::set_beyond, crate::proofs::Keeping::set_over))]
     pub fn set_deadline(&mut self, ec: u32, cpu: u32, sm: u32, at: u64)
         ensures { self.new ≡ record self.old { all = with_deadline self.old.all ec (Some (record { cpu = cpu; sm = sm; at = at })) } }
@@ -161,7 +161,7 @@ impl Times {
         }
     }
 
-    /// An execution context has no deadline from now on.
+    /// Clears the deadline of the execution context `ec`.
     pub fn clear_deadline(&mut self, ec: u32)
         ensures { self.new ≡ record self.old { all = with_deadline self.old.all ec None } }
     {
@@ -192,7 +192,7 @@ impl Times {
         Ok(())
     }
 
-    /// Adds an alarm in room that was made, and answers its number. It takes no memory.
+    /// Adds `alarm` in room that was made, and answers its number. It takes no memory.
     pub fn add_alarm(&mut self, alarm: Alarm) -> u32
         requires room { 0 < self.old.spare }
         requires few { length self.old.all.alarms < 2 ^ 32 - 1 }
@@ -216,7 +216,7 @@ impl Times {
         number
     }
 
-    /// The alarm of a number, if one was added, with its next moment and how often it has rung.
+    /// The alarm of number `number`, if one was added, with its next moment and how often it has rung.
     pub fn alarm(&self, number: u32) -> Option<AlarmState>
         ensures { result ≡ slice_get self.now.all.alarms number }
     {
@@ -230,7 +230,7 @@ impl Times {
         self.sources.as_slice()
     }
 
-    /// An alarm that hasn't ended rings: its next moment is a period later, and it has rung once more.
+    /// Rings the alarm `number`, which hasn't ended: its next moment is a period later, and it has rung once more.
     pub fn ring(&mut self, number: u32)
         requires there { IsSome (slice_get self.old.all.alarms number) }
         requires on { IfSome (slice_get self.old.all.alarms number) (λ a. goes_on a ≡ true) }
@@ -244,7 +244,7 @@ impl Times {
         self.alarms[number as usize] = after;
     }
 
-    /// What comes first on a processor that isn't there, by a search.
+    /// What comes first on the processor `cpu`, which isn't there, by a search.
     #[inline(never)]
     fn first_beyond(&self, cpu: u32) -> Option<Entry>
         ensures { result ≡ first_of (alarm_leaves cpu 0 self.now.all.alarms) (deadline_leaves cpu 0 self.now.all.deadlines) }
@@ -255,7 +255,7 @@ impl Times {
         )
     }
 
-    /// What comes first on a processor.
+    /// What comes first on the processor `cpu`.
     fn first(&self, cpu: u32) -> Option<Entry>
         ensures { option_map seen result ≡ next_entry self.now.all cpu }
     {
@@ -265,7 +265,7 @@ impl Times {
         }
     }
 
-    /// The least moment of a processor. None exactly where it has none.
+    /// The least moment at which something is to come on the processor `cpu`. None exactly where it has none.
     pub fn next(&self, cpu: u32) -> Option<u64>
         ensures { result ≡ next_moment self.now.all cpu }
     {
@@ -275,7 +275,7 @@ impl Times {
         }
     }
 
-    /// Whether something is due at once, where a processor isn't there, whose clock stands at 0.
+    /// Whether something is due at once on the processor `cpu`, which isn't there and whose clock stands at 0.
     #[inline(never)]
     fn is_due_beyond(&self, cpu: u32) -> bool
         ensures { result ≡ is_due_by 0 (moment_of (first_of (alarm_leaves cpu 0 self.now.all.alarms) (deadline_leaves cpu 0 self.now.all.deadlines))) }
@@ -286,7 +286,7 @@ impl Times {
         }
     }
 
-    /// Whether something is due on a processor.
+    /// Whether something is due on the processor `cpu`.
     #[inline(always)]
     pub fn is_due(&self, cpu: u32) -> bool
         ensures { result ≡ is_some (due_on self.now.all cpu) }
@@ -297,8 +297,8 @@ impl Times {
         }
     }
 
-    /// What is due on a processor: of what stands at the least moment an alarm before a deadline, then the least number. None
-    /// exactly where nothing is.
+    /// What is due on the processor `cpu`: of what stands at the least moment an alarm before a deadline, then the least number. None exactly where
+    /// nothing is.
     pub fn due(&self, cpu: u32) -> Option<Due>
         ensures { result ≡ due_on self.now.all cpu }
     {
@@ -309,7 +309,7 @@ impl Times {
         }
     }
 
-    /// How many turns are left until something is due, 0 where it is. None exactly where the processor has no entry.
+    /// How many turns of the processor `cpu` are left until something is due, 0 where it is. None exactly where the processor has no entry.
     pub fn until_due(&self, cpu: u32) -> Option<u64>
         ensures { result ≡ until_due self.now.all cpu }
     {
@@ -317,7 +317,7 @@ impl Times {
         Some(least.saturating_sub(self.clock(cpu)))
     }
 
-    /// The same once more, with as much room for deadlines.
+    /// Copies clocks, deadlines and alarms, with as much room for deadlines.
     pub fn copy(&self, alloc: Global) -> Result<Times, AllocError>
         ensures { IfOk result (λ t. (t.all ≡ self.now.all) × (t.contexts ≡ self.now.contexts)) }
     {

@@ -5,8 +5,8 @@ use crate::entry::{Entry, lesser};
 use std::alloc::{AllocError, Global};
 use std::marker::Model;
 
-/// Entries by number, and above them a tree whose nodes each have the lesser of two, so that the least of all is at its
-/// root, and a change costs one path to it. There are as many inner nodes as leaves; the one of number 0 is not used.
+/// Entries by number, and above them a tree whose nodes each have the lesser of two, so that the least of all is at its root, and a change costs one
+/// path to it. There are as many inner nodes as leaves; inner node 0 is not used.
 #[derive(Drop)]
 pub(crate) struct Tree {
     leaves: Vec<Option<Entry>>,
@@ -25,14 +25,14 @@ impl Model for Tree {
     ghost invariant = { λ t. IsTree t.inner.items t.leaves.items };
 }
 
-/// What stands at a number, or nothing.
+/// What stands at `n`, or nothing.
 fn leaf(entries: &[Option<Entry>], n: usize) -> Option<Entry>
     ensures { result ≡ leaf entries.now n }
 {
     *entries.get(n)?
 }
 
-/// The node of a number: behind the inner nodes come the leaves.
+/// The node `i`: behind the inner nodes come the leaves.
 fn node(inner: &[Option<Entry>], leaves: &[Option<Entry>], i: usize) -> Option<Entry>
     ensures { result ≡ node inner.now leaves.now i }
 {
@@ -43,7 +43,7 @@ fn node(inner: &[Option<Entry>], leaves: &[Option<Entry>], i: usize) -> Option<E
     }
 }
 
-/// A node gets the lesser of its children.
+/// Gives the node `i` the lesser of its children.
 fn settle(inner: &mut Vec<Option<Entry>>, leaves: &[Option<Entry>], i: usize)
     requires { i < length inner.old.items }
     ensures { inner.new.items ≡ slice_set inner.old.items i (of_children inner.old.items leaves.now i) }
@@ -53,7 +53,7 @@ fn settle(inner: &mut Vec<Option<Entry>>, leaves: &[Option<Entry>], i: usize)
     inner[i] = least;
 }
 
-/// Each node on the way up from one gets the lesser of its children.
+/// Gives each node on the way up from `from` the lesser of its children.
 #[tactic(auto, using(crate::proofs::Trees::settled, crate::proofs::Trees::all_settled))]
 fn climb(inner: &mut Vec<Option<Entry>>, leaves: &[Option<Entry>], from: usize)
     requires low { from < length inner.old.items }
@@ -80,7 +80,7 @@ fn build(inner: &mut Vec<Option<Entry>>, leaves: &[Option<Entry>])
     }
 }
 
-/// So many places with nothing.
+/// `count` places with nothing.
 fn places(alloc: Global, count: usize) -> Result<Vec<Option<Entry>>, AllocError>
     ensures { IfOk result (λ v. v.items ≡ replicate count None) }
 {
@@ -135,7 +135,7 @@ impl Tree {
         Ok(())
     }
 
-    /// Puts an entry, or nothing, at a number that has a place.
+    /// Puts `e`, an entry or nothing, at `n`, which has a place.
     #[tactic(auto, using(crate::proofs::Trees::put_in))]
     pub(crate) fn put(&mut self, n: usize, e: Option<Entry>)
         requires { n < length self.old }
@@ -155,7 +155,7 @@ impl Tree {
         node(self.inner.as_slice(), self.leaves.as_slice(), 1)
     }
 
-    /// The same once more.
+    /// Copies the tree.
     pub(crate) fn copy(&self, alloc: Global) -> Result<Tree, AllocError>
         ensures { IfOk result (λ t. t ≡ self.now) }
     {

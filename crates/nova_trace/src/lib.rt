@@ -1,4 +1,4 @@
-//! The events of a run, in order. Events that are the same one after another are kept once, with their number.
+//! The events of a run, in order. Equal events in a row are kept once, with their number.
 #![tactic(auto)]
 
 mod trace;

@@ -6,7 +6,7 @@ use nova_model::{Event, EventKind};
 use std::alloc::{AllocError, Global};
 use std::marker::Model;
 
-/// An event that comes so many times, one after another.
+/// An event that comes `count` times, one after another.
 #[derive(Clone, Copy)]
 pub struct Repeated {
     pub event: Event,
@@ -31,7 +31,7 @@ impl Model for Trace {
     ghost invariant = { λ t. (t.len ≡ length (events_of t.entries.items)) × (vec_len t.entries ≤ t.len) };
 }
 
-/// Whether two events are the same plain step.
+/// Whether `a` and `b` are the same plain step.
 fn is_same_step(a: &Event, b: &Event) -> bool
     ensures { OnTrue result (a.now ≡ b.now) }
 {
@@ -44,7 +44,7 @@ fn is_same_step(a: &Event, b: &Event) -> bool
         && a.b == b.b
 }
 
-/// Whether the last entry is of this event, a plain step.
+/// Whether the last of `entries` is of `event`, a plain step.
 fn is_last(entries: &[Repeated], event: &Event) -> bool
     ensures { OnTrue result (IsLast entries.now event.now) }
 {
@@ -54,7 +54,7 @@ fn is_last(entries: &[Repeated], event: &Event) -> bool
     }
 }
 
-/// The event of the last entry comes so many times more.
+/// Adds `count` to the number of the last entry, whose event `event` is.
 fn grow(entries: &mut Vec<Repeated>, event: Event, count: u64)
     requires last { IsLast entries.old.items event }
     requires fits { length (events_of entries.old.items) + count < 2 ^ 64 }
@@ -67,7 +67,7 @@ fn grow(entries: &mut Vec<Repeated>, event: Event, count: u64)
     }
 }
 
-/// One entry more, in reserved room.
+/// Adds an entry for `event`, which comes `count` times, in reserved room.
 fn append(entries: &mut Vec<Repeated>, event: Event, count: u64)
     requires room { vec_len entries.old < vec_capacity entries.old }
     ensures events { events_of entries.new.items ≡ events_of entries.old.items ++ replicate count event }
@@ -78,7 +78,7 @@ fn append(entries: &mut Vec<Repeated>, event: Event, count: u64)
 }
 
 impl Trace {
-    /// No events, and room for so many.
+    /// No events, and room for `room` of them.
     pub fn with_capacity(alloc: Global, room: usize) -> Result<Trace, AllocError>
         ensures items { IfOk result (λ t. t.items ≡ []) }
         ensures room { IfOk result (λ t. room ≤ t.capacity) }
@@ -94,7 +94,7 @@ impl Trace {
         self.len
     }
 
-    /// The events in order: each entry's so many times.
+    /// The events in order, each with the number of times that it comes.
     pub fn entries(&self) -> &[Repeated]
         ensures events { events_of result.now ≡ self.now.items }
         ensures few { length self.now.items < 2 ^ 64 }
@@ -103,7 +103,7 @@ impl Trace {
         self.entries.as_slice()
     }
 
-    /// Makes room for so many events more.
+    /// Makes room for `count` events more.
     pub fn reserve(&mut self, count: u64) -> Result<(), AllocError>
         ensures items { self.new.items ≡ self.old.items }
         ensures room { OnOk result (length self.new.items + count ≤ self.new.capacity) }
@@ -112,7 +112,7 @@ impl Trace {
         self.entries.reserve(more as usize)
     }
 
-    /// Adds an event so many times, at least once, in room that was made.
+    /// Adds `event` `count` times, at least once, in room that was made.
     #[inline(always)]
     pub fn add(&mut self, event: Event, count: u64)
         requires some { 0 < count }

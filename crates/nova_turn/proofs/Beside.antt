@@ -57,7 +57,7 @@ beside-there k ec reach reach' r r' outcome there is h =
     same : one r (space_of fetched loaded takes reach) ≡ instruction (with_regs k ec r) ec
     same = ap (λ (a : AddressSpace). one r (space a)) (space-reached k ec reach is) ∙ ap (λ (x : EcState). one x.regs (space (address_space k ec))) (sym (beside_context k ec r there))
 
--- who acts stays
+-- the context that acts stays
 pub still-entered : (reach reach' : ReachState) (r r' : Registers) (outcome : Outcome) (o : Once) → Follows stored o r reach outcome r' reach' →
     (reach'.ec ≡ reach.ec) × (reach'.pd ≡ reach.pd) × (reach'.is_thread ≡ reach.is_thread)
 still-entered reach reach' r r' outcome (Raised reason q0 q1) h = (ap (λ (s : ReachState). s.ec) h.2, ap (λ (s : ReachState). s.pd) h.2, ap (λ (s : ReachState). s.is_thread) h.2)
@@ -89,7 +89,7 @@ beside-written k ec reach reach' r r' outcome there is none h =
 
 -- A STORE, AS OTHERS SEE IT
 
--- who sees it doesn't depend on registers
+-- which domains see it doesn't depend on registers
 seen_beside : (k : KernelState) (ec : ℕ) (r : Registers) (pd : ℕ) (w : Option ℕ) → is_seen k pd w ≡ is_seen (with_regs k ec r) pd w
 seen_beside k ec r pd None = refl
 seen_beside k ec r pd (Some frame) = refl

@@ -39,13 +39,13 @@ still_runs k new r after are long same is = subst (AreRunning new) (sym is) (rec
 pub counted_runs : (k : KernelState) (cpu : ℕ) (r : RevokesState) → AreRunning k r → AreRunning (counted k cpu) r
 counted_runs k cpu r are = record { list = are.list; places = are.places }
 
--- who is woken by an up is there, also after the answer of who does it
+-- a context that an up wakes is there, also after the answer of the context that does it
 pub woken_still : (k : KernelState) (ec sm : ℕ) (whom : Option ℕ) (x : EcState) → AreBlocked k.contexts k.semaphores → woken (semaphore k.semaphores sm) ≡ Ok whom →
     IfSome whom (λ w. IsSome (ec_in (with_ec k.contexts ec x) w))
 woken_still k ec sm None x blocked is = tt
 woken_still k ec sm (Some w) x blocked is = still_there k.contexts ec w x (woken_there k.contexts k.semaphores sm w blocked is)
 
--- who has a deadline is there
+-- a context that has a deadline is there
 pub late_there : (k : KernelState) (ec : ℕ) (d : Deadline) → IsKept k → deadline_of k.times ec ≡ Some d → IsSome (context_at k ec)
 late_there k ec d kept is = subst IsSome (sym (blocked_there k.contexts ec d.sm (kept.deadlines ec d is).blocked)) refl
 

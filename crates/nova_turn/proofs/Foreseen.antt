@@ -23,7 +23,7 @@ use Rattle.nova_model.specs.declared.deed.Deed.{Deed}
 use Rattle.nova_model.specs.declared.deed.Deed.TheVariants.{Steps}
 use Rattle.nova_guest.specs.declared.input.Input.{Input}
 
--- one that revokes takes the next leaf
+-- a context that revokes takes the next leaf
 pub revoking_deed : (k : KernelState) (ec : ℕ) (range : Range) (own : Bool) → (context k ec).state ≡ Revoking range own →
     deed k ec ≡ removes (next_leaf (record { pd = pd_of k ec; range = range; own = own }) k.delegations)
 unfolding deed

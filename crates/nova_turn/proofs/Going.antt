@@ -51,6 +51,6 @@ pub raised_deed : (k : KernelState) (ec : ℕ) (r : Raised) (d : Deed) → HasRa
     d ≡ signalled k ec r.reason r.q0 r.q1 ((r.reason == environment_call) && is_thread k ec) → d ≡ deed k ec
 raised_deed k ec r d raised signals = signals ∙ raises k ec r.reason r.q0 r.q1 (instruction k ec) raised.1 ∙ sym (executing-deed k ec raised.0)
 
--- who stayed with one raise stayed with no other
+-- a context that stayed with a raise stayed with no other
 pub stayed_with : (r s : Option Raised) → Stayed r ≡ Stayed s → r ≡ s
 stayed_with r s is = cc

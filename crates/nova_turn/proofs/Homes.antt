@@ -62,7 +62,7 @@ set_joins [] n guest home is = absurd cc
 set_joins (x ∷ homes) zero guest home is = right_of home (Single guest) guest refl
 set_joins (x ∷ homes) (suc n) guest home is = set_joins homes n guest home is
 
--- one more joins, and those who were there stay
+-- an object more joins, and those that were there stay
 housed_stays : (homes : List Numbers) (o : Option ℕ) (one d guest : ℕ) → IfSome (slice_get homes d) (Includes guest) → IfSome (slice_get (housed o one homes) d) (Includes guest)
 housed_stays homes None one d guest h = h
 housed_stays homes (Some pd) one d guest h = by_home (slice_get homes pd) refl

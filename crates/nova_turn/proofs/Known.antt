@@ -1,4 +1,4 @@
--- A choice of which is known who acts.
+-- A choice of which it is known which context acts.
 use Rattle.std.proofs.Common.{◌≡◌, ℕ, zero, suc, List, [], ◌∷◌, ap, sym, ◌∙◌, subst}
 use Rattle.std.specs.Prelude.{Option, Some, option_map, slice_get}
 use Rattle.nova_model.specs.Choice.{choice}
@@ -16,7 +16,7 @@ known_at k [] i o all is = absurd cc
 known_at k (x ∷ xs) zero o all is = subst (IsKnown k) (let same : x ≡ o = cc in same) all.0
 known_at k (x ∷ xs) (suc i) o all is = known_at k xs i o all.1 is
 
--- one that the queues choose, and who acts in its turns
+-- a scheduling context that the queues choose, and the context that acts in its turns
 pub found_chosen : (k : KernelState) (s : Schedule) (cpu sc : ℕ) (o : Option ℕ) → AreQueued k s → Some sc ≡ queues.choose s cpu →
     o ≡ actor_of k.contexts (slice_get k.objects sc) → led_by sc o ≡ option_map chosen_of (choice k cpu)
 found_chosen k s cpu sc o queued is acts = ap (led_by sc) acts ∙ (ap (led k) is ∙ led_chosen k s cpu queued)

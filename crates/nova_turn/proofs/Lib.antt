@@ -21,3 +21,4 @@ pub mod Homes
 pub mod StoresSeen
 pub mod Whom
 pub mod Dues
+pub mod Settled

@@ -37,12 +37,12 @@ use Rattle.nova_ec.proofs.Tables.{there_below}
 use Rattle.nova_deeds.proofs.Keeps.{done-keeps}
 use Rattle.nova_revoke.proofs.Runners.{runs_begun, runs_ended, runs_fewer, runs_found}
 
--- WHO RUNS ONE
+-- WHICH CONTEXT RUNS A REVOKE
 
 below : (k : KernelState) (ec : ℕ) → IsSome (context_at k ec) → ec < length k.contexts
 below k ec there = there_below k.contexts ec (context k ec) (there_at k.contexts ec there)
 
--- the list has the revoke of one that revokes
+-- the list has the revoke of a context that revokes
 pub revoke_found : (k : KernelState) (r : RevokesState) (ec : ℕ) (range : Range) (own : Bool) → AreRunning k r → (context k ec).state ≡ Revoking range own →
     revoke_in ec r.list ≡ Some (record { pd = pd_of k ec; range = range; own = own })
 revoke_found k r ec range own are is =
@@ -61,7 +61,7 @@ deed_runs k ec Returns within idle =
     runs_ended (revoke_of k) (revoke_after k ec Returns) 0 (length k.contexts) ec (rw (eq-eqb ec ec refl) refl) (λ e other. rw other refl)
 deed_runs k ec other within idle = refl
 
--- what is known of a deed when it is decided: it is that of one that is there, and leaves the revokes of others
+-- what is known of a deed when it is decided: it is that of a context that is there, and leaves the revokes of others
 pub record IsDecided (k : KernelState) (ec : ℕ) (d : Deed) : Type 0 where
   pub there : IsSome (context_at k ec)
   pub is : d ≡ deed k ec
@@ -80,7 +80,7 @@ still_running k new ec d r after decided are is list places = record {
   places = rw is places;
 }
 
--- one that begins has a place
+-- a revoke that begins has a place
 pub begins_within : (k : KernelState) (ec : ℕ) (d : Deed) (r after : RevokesState) → IsDecided k ec d → AreRunning k r → after.list ≡ r.list → r.places ≤ after.places →
     BeginsWithin after d
 begins_within k ec (Revokes range own) r after decided are same more =

@@ -7,7 +7,7 @@ pub none_there : {T : Type 0} → (o : Option T) → is_some o ≡ false → is_
 none_there (Some x) h = cc
 none_there None h = refl
 
--- the processors after one that is idle
+-- the processors after an idle one
 pub quiet_more : (p : ℕ → Bool) (cpu cpus : ℕ) → cpu < cpus → p cpu ≡ true →
     list_all p (range_with_len (cpu + 1) (cpus - (cpu + 1))) ≡ list_all p (range_with_len cpu (cpus - cpu))
 quiet_more p cpu cpus h idle =

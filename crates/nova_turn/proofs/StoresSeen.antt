@@ -1,4 +1,4 @@
--- For whom stores are counted stays as long as objects, delegations and the number of frames do.
+-- The virtual CPUs for which stores are counted stay as long as objects, delegations and the number of frames do.
 use Rattle.std.proofs.Common.{inl, inr, ◌≡◌, ◌⊎◌, ◌==◌, ℕ, zero, suc, List, [], ◌∷◌, length, replicate, refl, ap, sym, ◌∙◌, subst}
 use Rattle.std.proofs.lemmas.Option.{same_Some}
 use Rattle.std.specs.Prelude.{Bool, true, false, ◌&&◌, if◌then◌else◌, nat_lt, Option, Some, None, slice_get, slice_set}
@@ -107,9 +107,9 @@ seers_on k m ec r r' s is are =
     (let same = subst (SeesAlike (with_regs k ec r)) (sym is) (alike_stepped (with_regs k ec r) ec (instruction (with_regs k ec r) ec)) in
     record { objects = same.objects; delegations = same.delegations; frames = same.frames }) are
 
--- FOR WHOM A STORE IS COUNTED
+-- FOR WHICH VIRTUAL CPU A STORE IS COUNTED
 
--- of one alone that isn't stirred nobody is left
+-- of one alone that isn't stirred none is left
 none_of : (k : KernelState) (stirs : ℕ → Bool) (guest : ℕ) → AreStirred k stirs (Single guest) → stirs guest ≡ false → AreStirred k stirs Empty
 none_of k stirs guest only calm i pd home is = let same = only i pd home is in let never : false ≡ true = sym calm ∙ (ap stirs same ∙ is) in cc
 

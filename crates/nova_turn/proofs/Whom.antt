@@ -1,4 +1,4 @@
--- Whom a deed stirs, and the counts that rise.
+-- The virtual CPUs that a deed stirs, and the counts that rise.
 use Rattle.std.proofs.Common.{◌≡◌, ℕ, zero, suc, ◌+◌, ◌<◌, ◌≤◌, ◌==◌, ◌⊎◌, List, [], ◌∷◌, length, inl, inr, refl, ap, ap₂, sym, ◌∙◌, subst, arith}
 use Rattle.std.proofs.lemmas.Bool.Decides.{nat_tests}
 use Rattle.std.specs.Prelude.{Bool, true, false, ◌&&◌, if◌then◌else◌, nat_lt, map, Option, Some, None, IfSome, is_some, slice_get}
@@ -28,7 +28,7 @@ right_true : (t u : Bool) → (t && u) ≡ true → u ≡ true
 right_true true u is = is
 right_true false u is = absurd cc
 
--- WHO SEES A STORE
+-- WHICH VIRTUAL CPUS SEE A STORE
 
 pub seers_any : (k : KernelState) (ec : ℕ) (written : Option ℕ) → AreSeers k ec written Several
 seers_any k ec written guest pd home seen = inr tt
@@ -48,7 +48,7 @@ pub seers_of : (k : KernelState) (ec frame : ℕ) (v : Viewers) (others : Number
 seers_of k ec frame v others are of guest pd home seen =
     of pd (sym (are pd) ∙ right_true (nat_lt frame (length k.memory.ram)) (is_covered_for k pd frame) seen) guest home
 
--- WHOM A DEED STIRS
+-- WHICH VIRTUAL CPUS A DEED STIRS
 
 home_pd : (o : Option Object) (pd : ℕ) → home_of o ≡ Some pd → pd_in o ≡ pd
 home_pd (Some (Ec p cpu Vcpu event)) pd is = cc
@@ -83,7 +83,7 @@ pub removes_stir : (k : KernelState) (written : Option ℕ) (ec : ℕ) (leaf : D
     AreStirred k (is_stirring k written ec (Removes leaf)) others
 removes_stir k written ec leaf others of = by_domain k ec (λ pd. is_memory_of pd leaf) others (holders k.objects ec leaf others of)
 
--- the one that is named
+-- the virtual CPU that is named
 by_name : (t u : Bool) (ec whose guest : ℕ) → (whose == guest) ≡ u → (if t then false else u) ≡ true → whose ≡ guest
 by_name true u ec whose guest is stirred = absurd cc
 by_name false true ec whose guest is stirred = let e : whose ≡ guest = grind (arith, is) in e
@@ -97,7 +97,7 @@ itself : (ec guest : ℕ) (t : Bool) → (ec == guest) ≡ t → (if t then true
 itself ec guest true is stirred = let e : ec ≡ guest = grind (arith, is) in e
 itself ec guest false is stirred = absurd cc
 
--- by its own words: itself, the one that it names, or whoever has or sees memory
+-- by its own words: itself, that which it names, or those that have or see memory
 abbrev pub named : ℕ → Deed → Numbers
 named ec (Sends handler ip identifier mtd reason q0 q1) = Single ec
 named ec (Dies reason q0) = Single ec
@@ -163,7 +163,7 @@ none_rises k stirs counts only = stays k stirs counts (λ i pd home. by_test i (
     by_test i true never = absurd (never refl)
     by_test i false never = refl
 
--- the one, where it is stirred, and nobody else
+-- that one, where it is stirred, and no other
 pub one_rises : (k : KernelState) (stirs : ℕ → Bool) (guest : ℕ) → HasCounts k → AreStirred k stirs (Single guest) → stirs guest ≡ true →
     risen_at guest k.stirs.guests ≡ risen_from stirs 0 k.stirs.guests
 one_rises k stirs guest counts only is = sym (from_none k stirs (λ m. m == guest) counts (λ i pd home. by_test i (stirs i) refl (only i pd home)))

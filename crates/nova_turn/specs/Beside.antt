@@ -9,7 +9,7 @@ use Rattle.nova_turn.specs.declared.parts.Parts.{Parts}
 abbrev pub with_regs : KernelState → ℕ → Registers → KernelState
 with_regs k ec regs = record k { contexts = with_ec k.contexts ec (record (context k ec) { regs = regs }) }
 
--- it is the one whose address space instructions reach
+-- instructions reach the address space of `ec`
 pub record IsEntered (p : Parts) (ec : ℕ) : Type 0 where
   pub number : p.reach.ec ≡ ec
   pub pd : p.reach.pd ≡ pd_of (state_of p) ec

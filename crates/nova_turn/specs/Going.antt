@@ -13,11 +13,15 @@ use Rattle.nova_turn.specs.Revoking.{AreRunning}
 use Rattle.nova_turn.specs.declared.decide.deciding.Raised.{Raised}
 use Rattle.nova_turn.specs.declared.parts.Parts.{Parts}
 
--- parts in which a turn may be taken, with room for one more turn and for one more byte of the log
-pub record MayTurn (p : Parts) : Type 0 where
+-- the tables agree with each other between turns: what is counted of the state, which scheduling contexts wait in queues, and the list of revokes
+pub record AreInStep (p : Parts) : Type 0 where
   pub counted : IsCounted (state_of p)
   pub queued : AreQueued (state_of p) p.queues.all
   pub running : AreRunning (state_of p) p.revokes
+
+-- parts in which a turn may be taken, with room for one more turn and for one more byte of the log
+pub record MayTurn (p : Parts) : Type 0 where
+  pub tables : AreInStep p
   pub turns : p.turns < 2 ^ 31
   pub log : 0 < p.reach.room
 

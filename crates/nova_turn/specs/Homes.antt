@@ -47,7 +47,7 @@ abbrev pub housed : Option ℕ → ℕ → List Numbers → List Numbers
 housed (Some pd) guest homes = housed_by pd guest homes (slice_get homes pd)
 housed None guest homes = homes
 
--- a protection domain has no virtual CPU but this one and these
+-- a protection domain has no virtual CPU but `ec` and `others`
 abbrev pub AreOthers : List Object → ℕ → ℕ → Numbers → Type 0
 AreOthers objects ec pd others = (guest : ℕ) → home_of (slice_get objects guest) ≡ Some pd → (ec ≡ guest) ⊎ Includes guest others
 
@@ -63,6 +63,6 @@ AreSeers k ec written others = (guest pd : ℕ) → home_of (slice_get k.objects
 abbrev pub AreStirred : KernelState → (ℕ → Bool) → Numbers → Type 0
 AreStirred k stirs guests = (guest pd : ℕ) → home_of (slice_get k.objects guest) ≡ Some pd → stirs guest ≡ true → Includes guest guests
 
--- who has a stir count is a virtual CPU
+-- an object that has a stir count is a virtual CPU
 abbrev pub HasCounts : KernelState → Type 0
 HasCounts k = map is_some k.stirs.guests ≡ map is_vcpu k.objects

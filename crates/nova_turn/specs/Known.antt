@@ -5,7 +5,7 @@ use Rattle.nova_model.specs.State.{KernelState}
 use Rattle.nova_choice.specs.Schedules.{actor_of}
 use Rattle.nova_choice.specs.declared.choice.Chosen.{Chosen}
 
--- what is known of a processor, where anything is: who acts in the turns of a scheduling context
+-- what is known of a processor, where anything is: the context that acts in the turns of a scheduling context
 abbrev pub IsKnown : KernelState → Option Chosen → Type 0
 IsKnown k None = Unit {0}
 IsKnown k (Some c) = actor_of k.contexts (slice_get k.objects c.sc) ≡ Some c.actor

@@ -5,6 +5,7 @@ use Rattle.nova_model.specs.declared.deed.Deed.{Deed}
 use Rattle.nova_model.specs.declared.deed.Deed.TheVariants.{Makes, Opens, Gives}
 use Rattle.nova_nodes.specs.NodesStates.{room}
 use Rattle.nova_choice.specs.Schedules.{HasQueue, budgets_of}
+use Rattle.nova_turn.specs.Views.{KernelView}
 use Rattle.nova_turn.specs.declared.parts.Parts.{Parts}
 
 -- the state that the lists show
@@ -26,6 +27,10 @@ state_of p = record {
   stirs = record { guests = p.guests.counts; processors = p.times.all.clocks };
   times = p.times.all;
 }
+
+-- what a caller sees of it
+abbrev pub view_of : Parts → KernelView
+view_of p = record { state = state_of p; room = p.reach.room }
 
 -- each list has room for one more, that of derivations for one of a protection domain
 pub record HasRoom (pd : ℕ) (p : Parts) : Type 0 where

@@ -1,4 +1,4 @@
--- For whom stores of an execution context to a frame are counted, as it is remembered.
+-- The virtual CPUs for which stores of an execution context to a frame are counted, as it is remembered.
 use Rattle.std.specs.Prelude.{ℕ, ◌≡◌, true, Some, slice_get}
 use Rattle.nova_model.specs.State.{KernelState}
 use Rattle.nova_model.specs.declared.deed.Deed.TheVariants.{Steps}
@@ -10,7 +10,7 @@ use Rattle.nova_turn.specs.declared.act.seers.Seer.TheVariants.{Unknown, Nobody,
 use Rattle.nova_turn.specs.declared.act.seers.Seers.{Seers}
 use Rattle.nova_turn.specs.declared.tables.inventory.Numbers.TheVariants.{Empty, Single}
 
--- of what is stored to a frame nobody is told, or this one alone
+-- of what is stored to a frame no virtual CPU is told, or this one alone
 abbrev pub IsSeer : KernelState → ℕ → ℕ → Seer → Type 0
 IsSeer k ec frame Unknown = Unit {0}
 IsSeer k ec frame Nobody = AreStirred k (is_stirring k (Some frame) ec Steps) Empty

@@ -1,9 +1,15 @@
--- What is seen of budgets, semaphores and turns.
-use Rattle.std.specs.Prelude.{ℕ, ◌<◌, Option, option_map, slice_get}
+-- What is seen of a kernel: its state, budgets, semaphores, and what a turn leaves.
+use Rattle.std.specs.Prelude.{◌≡◌, ℕ, ◌+◌, ◌<◌, ◌≤◌, Option, option_map, slice_get, Result, IfOk, OnOk, OnErr}
 use Rattle.nova_model.specs.State.{KernelState, Semaphore, entry, budget_at}
 use Rattle.nova_model.specs.Runs.{after}
+use Rattle.nova_model.specs.Turn.{answer_of, state_after, turn}
 use Rattle.nova_model.specs.declared.event.Turn.{Turn}
 use Rattle.nova_model.specs.declared.event.Turn.TheVariants.{Stepped, Idle}
+
+-- the state, and how many more bytes the console log takes
+pub record KernelView : Type 0 where
+  pub state : KernelState
+  pub room : ℕ
 
 -- the turns that a scheduling context paid for, and those left of its quantum
 abbrev pub ticks_of : KernelState → ℕ → Option ℕ
@@ -28,3 +34,16 @@ HasMade old new = old.delegations.next < new.delegations.next
 -- the turn of a processor makes a derivation
 abbrev pub IsMaking : KernelState → ℕ → Type 0
 IsMaking k cpu = HasMade k (after k cpu)
+
+-- What the turn of a processor answers and leaves: the answer and the state are those of the definition. Where it is refused memory, nothing has
+-- changed, and it would make a derivation. It takes at most one place of the log, an idle one changes nothing, each other counts one turn, and
+-- processors stay.
+pub record IsTurnTaken {E : Type 0} (old new : KernelView) (cpu : ℕ) (result : Result Turn E) : Type 0 where
+  pub answer : IfOk result (λ t. t ≡ answer_of (turn old.state cpu))
+  pub state : OnOk result (new.state ≡ state_after old.state (turn old.state cpu))
+  pub memory : OnErr result (new ≡ old)
+  pub making : OnErr result (IsMaking old.state cpu)
+  pub room : old.room ≤ new.room + 1
+  pub idle : IfOk result (λ t. t ≡ Idle → new ≡ old)
+  pub counted : IfOk result (λ t. new.state.turns ≡ old.state.turns + turns_taken t)
+  pub cpus : new.state.cpus ≡ old.state.cpus

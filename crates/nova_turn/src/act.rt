@@ -1,4 +1,4 @@
-//! A deed is done, counted for those for whom it is an input, and charged: a turn.
+//! A deed is done, counted for those for which it is an input, and charged: a turn.
 
 mod calls;
 mod charge;

@@ -1,6 +1,6 @@
 //! What an execution context does next, which is decided and not done; and what that is for a virtual CPU.
 
-mod calls;
+pub(crate) mod calls;
 pub(crate) mod capabilities;
 mod choice;
 pub(crate) mod deciding;

@@ -33,7 +33,7 @@ pub struct Parts {
 }
 
 impl Parts {
-    /// The counter of a semaphore and how many wait at it.
+    /// The counter of the semaphore `sm` and how many wait at it.
     pub fn semaphore(&self, sm: u32) -> Option<(u32, u32)>
         ensures { result ≡ option_map (λ s. (s.count, length s.waiting)) (semaphore_at (state_of self.now) sm) }
     {

@@ -6,4 +6,5 @@ mod copy;
 pub(crate) mod groups;
 pub mod inventory;
 mod messages;
+mod restore;
 mod sources;

@@ -53,7 +53,7 @@ run_frames : (k : KernelState) (turns : List ℕ) → length (run k turns).memor
 run_frames k [] = refl
 run_frames k (cpu ∷ turns) = run_frames (after k cpu) turns ∙ turn_frames k cpu
 
--- THE REGISTERS OF ONE THAT IS MADE
+-- THE REGISTERS OF A VIRTUAL CPU THAT IS MADE
 begun_registers : (r : Registers) (sp : ℕ) → r.x ≡ replicate 32 0 → AreRegisters (with_reg r 2 sp)
 begun_registers r sp is = record {
   count = length_reg r 2 sp ∙ (ap length is ∙ length-replicate {A = ℕ} 32 0);

@@ -17,21 +17,23 @@ said (Equal inputs pairs) = renaming.Equal inputs pairs.items
 said Views = renaming.Views
 said (Differ inputs) = renaming.Differ inputs
 
--- A RENAMING of frames, of so many RAM frames each, that makes two guests and their inputs agree: a finite list of pairs, one to one, RAM for RAM and a console for a console
+-- A RENAMING of frames, of `ram` and `others` RAM frames, that makes two guests and their inputs agree: a finite list of pairs, one to one, RAM for
+-- RAM and a console for a console
 pub record MakesAgree (ram others : ℕ) (u v : Guest) (is js : List Input) (pairs : List (ℕ × ℕ)) : Type 0 where
   pub renaming : IsRenaming (among pairs) ram others
   pub guests : GuestsAgree (among pairs) u v
   pub inputs : InputsAgree (among pairs) is js
 
--- EQUAL: a renaming makes the guests and all inputs agree, so many on each side. Its pairs are those that the guests' maps and the maps given name, each once, in the order
--- in which they are first met
+-- EQUAL: a renaming makes the guests and all inputs agree, `inputs` on each side. Its pairs are those that the guests' maps and the maps given name,
+-- each once, in the order in which they are first met
 pub record AreEqual (ram others : ℕ) (u v : Guest) (is js : List Input) (inputs : ℕ) (pairs : List (ℕ × ℕ)) : Type 0 where
   pub agree : MakesAgree ram others u v is js pairs
   pub first : inputs ≡ length is
   pub second : inputs ≡ length js
   pub met : pairs ≡ once (named u v is js)
 
--- DIFFERENT after so many inputs: some renaming makes the guests and these inputs agree, and none does so for one more, or one side has no more and the other has
+-- DIFFERENT after `inputs` inputs: some renaming makes the guests and these inputs agree, and none does so for one more, or one side has no more and
+-- the other has
 pub record AreDifferent (ram others : ℕ) (u v : Guest) (is js : List Input) (inputs : ℕ) : Type 0 where
   pub first : inputs ≤ length is
   pub second : inputs ≤ length js
@@ -46,7 +48,7 @@ HoldsOf ram others u v is js (Equal inputs pairs) = AreEqual ram others u v is j
 HoldsOf ram others u v is js Views = (pairs : List (ℕ × ℕ)) → MakesAgree ram others u v [] [] pairs → ⊥
 HoldsOf ram others u v is js (Differ inputs) = AreDifferent ram others u v is js inputs
 
--- of two sides, whose machines have so many RAM frames
+-- of two sides, whose machines have `ram` and `others` RAM frames
 abbrev pub Holds : ℕ → ℕ → Side → Side → Verdict → Type 0
 Holds ram others a b verdict = HoldsOf ram others a.start b.start a.inputs.items b.inputs.items verdict
 

@@ -17,7 +17,7 @@ pub record IsAdmitted (side : Side) : Type 0 where
   pub inputs : All IsInput side.inputs.items
   pub registers : AreRegisters side.start.regs
 
--- the verdict where they differ after so many inputs, or don't
+-- the verdict where they differ after that many inputs, or don't
 abbrev pub ended : Option ℕ → ℕ → List (ℕ × ℕ) → Verdict
 ended (Some inputs) count met = Differ inputs
 ended None count met = Equal count met

@@ -38,7 +38,7 @@ pub(crate) fn alike(u: &Guest, v: &Guest) -> bool
         && alike_maps(u.maps.as_slice(), v.maps.as_slice())
 }
 
-/// The frames of a map and those of its partner join the pairs that were met; it says whether they can.
+/// The frames of `map` and those of its partner join the pairs that were met; it says whether they can.
 fn join_map(
     u: &Guest,
     v: &Guest,

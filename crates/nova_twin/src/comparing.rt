@@ -13,8 +13,7 @@ use crate::verdict::Verdict;
 use law_renaming::step;
 use std::alloc::AllocError;
 
-/// After how many inputs two sides differ, whose guests agree under the pairs that were met; none where
-/// they agree to the end.
+/// After how many inputs `a` and `b` differ, whose guests agree under the pairs that were met; none where they agree to the end.
 fn first_unlike(a: &Side, b: &Side, met: &mut Vec<(u32, u32)>) -> Result<Option<u64>, AllocError>
     requires first { All IsInput a.now.inputs.items }
     requires second { All IsInput b.now.inputs.items }
@@ -35,7 +34,7 @@ fn first_unlike(a: &Side, b: &Side, met: &mut Vec<(u32, u32)>) -> Result<Option<
     }
 }
 
-/// What one pass finds of two sides.
+/// What one pass finds of `a` and `b`.
 fn passed(a: &Side, b: &Side) -> Result<Verdict, AllocError>
     requires first { IsAdmitted a.now }
     requires second { IsAdmitted b.now }
@@ -57,9 +56,9 @@ fn passed(a: &Side, b: &Side) -> Result<Verdict, AllocError>
     }
 }
 
-/// Compares two sides but for the frames that their pages lead to. The verdict is that of the three which
-/// holds: some renaming of frames, one to one, RAM for RAM and a console for a console, makes the views at
-/// their births and all their inputs agree; or none makes the views agree; or one makes the views and so
+/// Compares the sides `a` and `b` but for the frames that their pages lead to. The verdict is that of the three
+/// which holds: some renaming of frames, one to one, RAM for RAM and a console for a console, makes the views
+/// at their births and all their inputs agree; or none makes the views agree; or one makes the views and that
 /// many first inputs agree, and none does so for one more, or one side has no more and the other has. With
 /// equal sides the views at the ends agree under the pairs, the exits are equal, and the bytes are but for
 /// their frames.

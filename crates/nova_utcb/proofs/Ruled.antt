@@ -21,7 +21,7 @@ get_from rule n (w ∷ ws) (suc i) d within =
 pub get_ruled : (rule : ℕ → ℕ → ℕ) (ws : List ℕ) (i d : ℕ) → i < length ws → get_or (ruled rule ws) i d ≡ rule i (get_or ws i d)
 get_ruled rule ws i d within = get_from rule 0 ws i d within ∙ ap (λ k. rule k (get_or ws i d)) (omega arith)
 
--- a list is the one of a rule where each of its words is
+-- a list is `ruled rule ws` where each of its words is as the rule says
 pub is_ruled : (rule : ℕ → ℕ → ℕ) (ws xs : List ℕ) → length xs ≡ length ws → ((i d : ℕ) → i < length ws → get_or xs i d ≡ rule i (get_or ws i d)) → xs ≡ ruled rule ws
 is_ruled rule ws xs size each =
     same_lists xs (ruled rule ws) (size ∙ sym (length_ruled rule ws)) (λ i d within. each i d (omega (arith, within, size)) ∙ sym (get_ruled rule ws i d (omega (arith, within, size))))

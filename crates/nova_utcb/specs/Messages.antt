@@ -52,7 +52,7 @@ second_place i = 127 - 2 * i
 abbrev pub item_at : List ℕ → ℕ → ℕ × ℕ
 item_at m i = (word m (range_place i), word m (second_place i))
 
--- how many items a message has; one that counts more words than there are has none
+-- how many items a message has; a message that counts more words than there are has none
 abbrev pub counted_items : List ℕ → ℕ
 counted_items m = if has_counts m then items m else 0
 

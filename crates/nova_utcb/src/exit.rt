@@ -6,7 +6,7 @@ use crate::utcb::Utcb;
 use nova_range::{Flags, Mtd};
 use rv_model::Regs;
 
-/// A word of a group, which is 0 where the descriptor doesn't name the group.
+/// `content`, a word of `group`, or 0 where `mtd` doesn't name the group.
 fn filled(mtd: Mtd, group: Mtd, content: u32) -> u32
     ensures { result ≡ filled mtd group content }
 {
@@ -14,8 +14,8 @@ fn filled(mtd: Mtd, group: Mtd, content: u32) -> u32
 }
 
 impl Utcb {
-    /// Puts the message of an exit into the words: 36 into word 0, and into words 4 to 39 the
-    /// descriptor, the exit's two qualifications, pc and x0 to x31, in this order. Words of groups that
+    /// Puts the message of an exit into the words, by the groups of `mtd`. Word 0 is 36, and words 4 to 39 are
+    /// the descriptor, the qualifications `q0` and `q1`, pc and x0 to x31, in this order. Words of groups that
     /// the descriptor doesn't name become 0. All other words stay.
     #[tactic(auto, using(crate::proofs::Exits::exited_by_parts))]
     pub fn put_state(&mut self, mtd: Mtd, q0: u32, q1: u32, regs: &Regs)
@@ -43,9 +43,9 @@ impl Utcb {
         }
     }
 
-    /// Takes back the state of an exit: of the groups of pc, of x1 to x15 and of x16 to x31 those that
-    /// word 4 names, from the words where an exit's message has them. Other bits of word 4 don't
-    /// matter, and the other registers stay.
+    /// Takes back into `regs` the groups that word 4 names, from the words where an exit's message has them.
+    /// The groups are those of pc, of x1 to x15 and of x16 to x31. Other bits of word 4 don't matter, and the
+    /// other registers stay.
     #[tactic(auto, using(crate::proofs::Exits::back_by_parts))]
     pub fn take_state(&self, regs: &mut Regs)
         ensures { regs.new ≡ written_back self.now regs.old }
@@ -62,7 +62,7 @@ impl Utcb {
         Mtd::from_bits_retain(self.word(4))
     }
 
-    /// Takes pc from its word where its group is named.
+    /// Takes pc into `regs` from its word where its group is named.
     fn take_pc(&self, regs: &mut Regs)
         ensures { regs.new ≡ record regs.old { pc = renewed self.now Mtd.PC 7 regs.old.pc } }
     {

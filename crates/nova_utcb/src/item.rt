@@ -32,7 +32,7 @@ impl Utcb {
         (self.word(126 - 2 * i), self.word(127 - 2 * i))
     }
 
-    /// Puts the range word of item `i` and its second word. `i` is below 62, and all other words stay.
+    /// Puts `first` as the range word of item `i`, and `second` as its second word. `i` is below 62, and all other words stay.
     pub fn set_item(&mut self, i: u32, first: u32, second: u32)
         requires { i < 62 }
         ensures { self.new ≡ with_item self.old i first second }

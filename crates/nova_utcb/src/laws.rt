@@ -31,8 +31,7 @@ pub fn only_counted_words_are_copied()
         × (delegation_window (copied from to) ≡ delegation_window to) }
 {}
 
-/// A message that is copied twice is as copied once, and one that is passed on comes as from its
-/// first sender.
+/// A message that is copied twice is as copied once, and a message that is passed on comes as from its first sender.
 pub fn copies_of_copies()
     ensures again { (from to : List ℕ) → copied from (copied from to) ≡ copied from to }
     ensures passed { (from between to : List ℕ) → IsMessage between → IsMessage to →
@@ -50,9 +49,9 @@ pub fn exit_messages_have_their_words()
         word (exited mtd q0 q1 r m) i ≡ word m i }
 {}
 
-/// Registers that were put into an exit's message and are taken back are as they were: into
-/// themselves whatever groups are named, and into any registers where pc and both groups of registers
-/// are named. x0 stays, whatever the words are.
+/// Registers that were put into an exit's message and are taken back are as they were. That holds into
+/// themselves whatever groups are named, and into any registers where pc and both groups of registers are
+/// named. x0 stays, whatever the words are.
 pub fn states_come_back()
     ensures itself { (mtd : Mtd) (q0 q1 : ℕ) (r : Registers) (m : List ℕ) → IsMessage m → IsFile r →
         written_back (exited mtd q0 q1 r m) r ≡ r }

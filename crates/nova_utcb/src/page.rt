@@ -12,8 +12,7 @@ fn numbers(count: u32) -> u64
     1 << (8 * count)
 }
 
-/// A word in which `width` bytes from byte `at` on are the lowest ones of a value. They lie within the
-/// word.
+/// `word` in which `width` bytes from byte `at` on are the lowest ones of `value`. They lie within the word.
 #[tactic(auto, using(crate::proofs::Pages::word_fits))]
 fn with_bytes(word: u32, at: u32, width: u32, value: u32) -> u32
     requires width { IsWidth width }
@@ -27,8 +26,8 @@ fn with_bytes(word: u32, at: u32, width: u32, value: u32) -> u32
 }
 
 impl Utcb {
-    /// The number in `width` bytes of the page that begins with the words, from an offset on and the
-    /// lowest byte first. The width is 1, 2 or 4, and the offset is below 512 and a multiple of it.
+    /// The number in `width` bytes of the page that begins with the words, from `offset` on and the lowest byte
+    /// first. The width is 1, 2 or 4, and the offset is below 512 and a multiple of it.
     pub fn load(&self, offset: u32, width: u32) -> u32
         requires width { IsWidth width }
         requires within { offset < 512 }
@@ -44,9 +43,8 @@ impl Utcb {
         }
     }
 
-    /// Stores the lowest `width` bytes of a value to the page, from an offset on and the lowest byte
-    /// first. The width is 1, 2 or 4, and the offset is below 512 and a multiple of it. All other bytes
-    /// stay.
+    /// Stores the lowest `width` bytes of `value` to the page, from `offset` on and the lowest byte first. The
+    /// width is 1, 2 or 4, and the offset is below 512 and a multiple of it. All other bytes stay.
     pub fn store(&mut self, offset: u32, width: u32, value: u32)
         requires width { IsWidth width }
         requires within { offset < 512 }

@@ -50,7 +50,7 @@ impl Utcb {
         self.words[i]
     }
 
-    /// Puts a value into word `i`, which is below 128. All others stay.
+    /// Puts `value` into word `i`, which is below 128. All others stay.
     pub fn set(&mut self, i: usize, value: u32)
         requires { i < 128 }
         ensures { self.new ≡ slice_set self.old i value }
@@ -79,8 +79,7 @@ impl Utcb {
         self.counts().is_ok()
     }
 
-    /// Copies a message: word 0 and the untyped words that it counts. All other words stay. The
-    /// counts of `from` aren't `BadCounts`.
+    /// Copies the message `from`: word 0 and the untyped words that it counts. All other words stay. The counts of `from` aren't `BadCounts`.
     #[tactic(auto, using(crate::proofs::Copies::copied_by_parts))]
     pub fn copy_words(&mut self, from: &Utcb)
         requires { IsTrue (has_counts from.now) }

@@ -6,7 +6,7 @@ use Rattle.std.specs.List.{position_or_len, slice_split, onto_first}
 use Rattle.std.proofs.lemmas.List.Splits.{slice_split-cons_no, slice_split_first}
 use Rattle.nova_text.specs.Piece.{pieces_from}
 
--- where no element passes, the list is the one part
+-- where no element passes, the list is the only part
 pub no_cut : (p : ℕ → Bool) (bs : List ℕ) → length bs ≤ position_or_len p bs → slice_split p bs ≡ bs ∷ []
 no_cut p [] le = refl
 no_cut p (b ∷ bs) le = go (p b) refl (no_cut p bs) where

@@ -21,7 +21,7 @@ use Rattle.rv_asm.specs.declared.name.Name.{Name}
 use Rattle.rv_asm.specs.declared.name.Name.TheVariants.{Instruction, Short}
 use Rattle.rv_asm.specs.declared.name.ShortForm.TheVariants.{Nop, Mv, J, Ret, Li, Word}
 
--- a statement has as many words by some labels as by others: one that has a target has one word, at fault too
+-- a statement has as many words by some labels as by others: a statement that has a target has one word, at fault too
 one_word : (name : Name) (r s : Result Operands FaultyOperand) → ((o : Operands) → length (items_of name o) ≡ 1) → word_count (items_or_fault name r) ≡ word_count (items_or_fault name s)
 one_word name (Ok o) (Ok p) one = one o ∙ sym (one p)
 one_word name (Ok o) (Err faulty) one = one o
@@ -175,7 +175,7 @@ label_stands n labels all place (row ∷ rows) name late e none =
         rest (label_other labels (record { line = row.number; place = place }) name (labelled row).label is ∙ none)
         ∙ ap (λ k. label_among all name (place + k) rows) (line_count labels all place row agree)
 
--- the labels so far are those of the lines before, and all stand on earlier lines
+-- the labels up to now are those of the lines before, and all stand on earlier lines
 record AreOf (n : ℕ) (labels : Labels) (before : List Row) : Type 0 where
   there : (name : List ℕ) → is_some (labels name) ≡ list_any (bears name) before
   earlier : (name : List ℕ) → IfSome (labels name) (λ label. label.line < n)

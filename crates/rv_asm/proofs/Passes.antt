@@ -72,7 +72,7 @@ says_rest row rows here is passes rest = passes (ap (list_any says) is ∙ go (s
   go true = refl
   go false = rest
 
--- pass two: the words so far in front of those of the rest
+-- pass two: the words up to now in front of those of the rest
 abbrev pub led : List ℕ → Result (List ℕ) AsmFault → Result (List ℕ) AsmFault
 led ws (Ok more) = Ok (ws ++ more)
 led ws (Err fault) = Err fault

@@ -55,7 +55,7 @@ abbrev pub shifted : Result ℕ OperandFault → Result ℕ OperandFault
 shifted (Ok n) = Ok (n * 2 ^ 12)
 shifted (Err why) = Err why
 
--- an offset is even; an odd one is no target, whatever its size
+-- an offset is even; an odd offset is no target, whatever its size
 abbrev pub is_odd : Option ℕ → Bool
 is_odd None = false
 is_odd (Some n) = n % 2 == 1

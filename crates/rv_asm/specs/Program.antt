@@ -30,7 +30,7 @@ abbrev pub statement_of : Labels → ℕ → Option Written → Result (List Ite
 statement_of labels place None = Ok []
 statement_of labels place (Some w) = statement labels place w (name_of w.name.text)
 
--- whether a label stands on a line before this one, and the span of a label with its colon
+-- whether a label stands on a line before line `number`, and the span of a label with its colon
 abbrev pub is_earlier : ℕ → Option Label → Bool
 is_earlier number None = false
 is_earlier number (Some label) = nat_lt label.line number
@@ -42,7 +42,7 @@ abbrev pub after_label : Labels → ℕ → Option Piece → Result (List Item) 
 after_label labels number None rest = rest
 after_label labels number (Some piece) rest = if is_earlier number (labels piece.text) then Err (TwiceLabel (with_colon piece.span)) else rest
 
--- what a line means, before which so many words stand
+-- what a line means, before which `place` words stand
 abbrev pub line_items : Labels → ℕ → Row → Result (List Item) AsmFault
 line_items labels place row =
     let parts = labelled row in after_label labels row.number parts.label (statement_of labels place (written parts.rest))

@@ -24,7 +24,7 @@ is_colon b = b == 58
 abbrev pub is_comma : ℕ → Bool
 is_comma b = b == 44
 
--- how many separators stand in front, and the row after so many bytes
+-- how many separators stand in front, and the row after a number of bytes
 abbrev pub gap : List ℕ → ℕ
 gap bs = position_or_len (λ b. not (is_separator b)) bs
 

@@ -79,7 +79,7 @@ pub struct FaultyOperand {
 }
 
 impl OperandFault {
-    /// Whether this fault comes before another one of the same line, wherever its operand stands.
+    /// Whether the fault comes before `other`, of the same line, wherever its operand stands.
     pub fn is_graver(self, other: OperandFault) -> bool
         ensures { result ≡ is_graver self other }
     {
@@ -90,7 +90,7 @@ impl OperandFault {
         }
     }
 
-    /// The fault of an operand at a span.
+    /// The fault of the operand at `span`.
     pub fn at(self, span: Span) -> AsmFault
         ensures { result ≡ fault_at span self }
     {

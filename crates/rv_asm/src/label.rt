@@ -30,14 +30,14 @@ impl<'a> Labels<'a> {
         }
     }
 
-    /// Where a label stands.
+    /// Where the label `name` stands, if it does.
     pub fn find(&self, name: &[u8]) -> Option<Label>
         ensures { result ≡ places_of self.now name.now }
     {
         self.places.get(name).copied()
     }
 
-    /// Adds a label, unless it stands among the others.
+    /// Adds `label` as that of `name`, unless the name stands among the others.
     pub fn add(&mut self, name: &'a [u8], label: Label) -> Result<(), AllocError>
         ensures added { OnOk result (places_of self.new ≡ added (places_of self.old) name.now label (places_of self.old name.now)) }
         ensures err { OnErr result (places_of self.new ≡ places_of self.old) }

@@ -69,7 +69,7 @@ impl ShortForm {
     }
 }
 
-/// The operands of a row of the instruction table.
+/// The operands of `row` of the instruction table.
 fn row_slots(row: Row) -> &'static [Slot]
     ensures { result.now ≡ slots_in row.format row.opcode }
 {
@@ -93,7 +93,7 @@ fn row_slots(row: Row) -> &'static [Slot]
     }
 }
 
-/// The short form of a name.
+/// The short form that is named `text`.
 fn short_named(text: &[u8]) -> Option<ShortForm>
     ensures { result ≡ short_named text.now }
 {
@@ -104,7 +104,7 @@ fn short_named(text: &[u8]) -> Option<ShortForm>
 }
 
 impl Name {
-    /// What a name means, or nothing where no instruction has it.
+    /// What the name `text` means, or nothing where no instruction has it.
     pub fn of(text: &[u8]) -> Option<Name>
         ensures { result ≡ name_of text.now }
     {
@@ -117,7 +117,7 @@ impl Name {
         }
     }
 
-    /// The operands that are written after it.
+    /// The operands that are written after the name.
     pub fn slots(self) -> &'static [Slot]
         ensures { result.now ≡ slots_of self }
     {
@@ -140,7 +140,7 @@ impl Name {
         }
     }
 
-    /// The operands that aren't written.
+    /// The operands that the name gives and that aren't written.
     pub fn given(self) -> Operands
         ensures { result ≡ given self }
     {

@@ -13,7 +13,7 @@ use crate::syntax::{is_name, len_before};
 use nova_text::{NumberError, parse_number};
 use rv_model::Operands;
 
-/// The number that a text writes, at most a limit.
+/// The number that `text` writes, at most `limit`.
 fn sized(limit: u32, text: &[u8]) -> Result<u32, OperandFault>
     ensures { result ≡ sized limit (u32_of (number text.now)) }
 {
@@ -24,7 +24,7 @@ fn sized(limit: u32, text: &[u8]) -> Result<u32, OperandFault>
     }
 }
 
-/// A number below zero as a word.
+/// The number `size` below zero as a word.
 fn negated(size: Result<u32, OperandFault>) -> Result<u32, OperandFault>
     ensures { result ≡ negated size }
 {
@@ -34,7 +34,7 @@ fn negated(size: Result<u32, OperandFault>) -> Result<u32, OperandFault>
     }
 }
 
-/// The number that a text writes, from -low to high, as a word. Where low is 0 no sign may stand in front.
+/// The number that `text` writes, from -`low` to `high`, as a word. Where low is 0 no sign may stand in front.
 fn number_in(low: u32, high: u32, text: &[u8]) -> Result<u32, OperandFault>
     ensures { result ≡ number_in low high text.now }
 {
@@ -44,7 +44,7 @@ fn number_in(low: u32, high: u32, text: &[u8]) -> Result<u32, OperandFault>
     }
 }
 
-/// The number of the upper 20 bits of a word, as the word.
+/// The number of the upper 20 bits that `text` writes, as the word.
 fn upper_in(text: &[u8]) -> Result<u32, OperandFault>
     ensures { result ≡ shifted (number_in 0 1048575 text.now) }
 {
@@ -54,7 +54,7 @@ fn upper_in(text: &[u8]) -> Result<u32, OperandFault>
     }
 }
 
-/// Whether a byte is an odd hexadecimal digit.
+/// Whether `byte` is an odd hexadecimal digit.
 fn is_odd_digit(byte: u8) -> bool
     ensures { result ≡ is_odd_digit byte }
 {
@@ -64,7 +64,7 @@ fn is_odd_digit(byte: u8) -> bool
     }
 }
 
-/// Whether the last byte is an odd digit.
+/// Whether the last byte of `text` is an odd digit.
 fn ends_odd(text: &[u8]) -> bool
     ensures { result ≡ ends_odd false text.now }
 {
@@ -75,7 +75,7 @@ fn ends_odd(text: &[u8]) -> bool
     is_odd
 }
 
-/// Whether a text writes an odd number, of any size.
+/// Whether `text` writes an odd number, of any size.
 fn is_odd(text: &[u8]) -> bool
     ensures { result ≡ is_odd (number text.now) }
 {
@@ -86,7 +86,7 @@ fn is_odd(text: &[u8]) -> bool
     }
 }
 
-/// A text without its sign, where one may stand in front.
+/// `text` without its sign, where one may stand in front.
 fn unsigned(low: u32, text: &[u8]) -> &[u8]
     ensures { result.now ≡ unsigned low text.now }
 {
@@ -96,7 +96,7 @@ fn unsigned(low: u32, text: &[u8]) -> &[u8]
     }
 }
 
-/// An even offset.
+/// The even offset that `text` writes.
 fn offset_in(low: u32, high: u32, text: &[u8]) -> Result<u32, OperandFault>
     ensures { result ≡ offset_in low high text.now }
 {
@@ -106,7 +106,7 @@ fn offset_in(low: u32, high: u32, text: &[u8]) -> Result<u32, OperandFault>
     number_in(low, high, text)
 }
 
-/// So many words in bytes, at most a limit.
+/// The bytes of `words` words, at most `limit`.
 fn bytes_of(limit: u32, words: u64) -> Result<u32, OperandFault>
     ensures { result ≡ limited limit (4 * words) }
 {
@@ -117,7 +117,7 @@ fn bytes_of(limit: u32, words: u64) -> Result<u32, OperandFault>
     }
 }
 
-/// From one place in words to another, in bytes.
+/// The way from `from` to `to`, places in words, in bytes.
 fn offset_to(low: u32, high: u32, from: u64, to: u64) -> Result<u32, OperandFault>
     ensures { result ≡ offset_to low high from to }
 {
@@ -128,7 +128,7 @@ fn offset_to(low: u32, high: u32, from: u64, to: u64) -> Result<u32, OperandFaul
     }
 }
 
-/// A label, or an offset.
+/// The target that `text` writes, a label or an offset.
 fn target_in(
     low: u32,
     high: u32,
@@ -166,7 +166,7 @@ fn with_base(
     }
 }
 
-/// The operands with a number and the register that stands before a closing bracket.
+/// The operands with `number` and the register that stands before a closing bracket.
 fn base_in(
     operands: Operands,
     number: Result<u32, OperandFault>,
@@ -182,7 +182,7 @@ fn base_in(
     }
 }
 
-/// The operands with those of `n(rs1)`.
+/// `operands` with those of `n(rs1)` in `text`.
 fn address_in(operands: Operands, text: &[u8]) -> Result<Operands, OperandFault>
     ensures { result ≡ address_in operands text.now }
 {
@@ -193,7 +193,7 @@ fn address_in(operands: Operands, text: &[u8]) -> Result<Operands, OperandFault>
     }
 }
 
-/// The operands with rd.
+/// `operands` with `register` as rd.
 fn with_rd(operands: Operands, register: Option<u32>) -> Result<Operands, OperandFault>
     ensures { result ≡ with_rd operands register }
 {
@@ -203,7 +203,7 @@ fn with_rd(operands: Operands, register: Option<u32>) -> Result<Operands, Operan
     }
 }
 
-/// The operands with rs1.
+/// `operands` with `register` as rs1.
 fn with_rs1(operands: Operands, register: Option<u32>) -> Result<Operands, OperandFault>
     ensures { result ≡ with_rs1 operands register }
 {
@@ -213,7 +213,7 @@ fn with_rs1(operands: Operands, register: Option<u32>) -> Result<Operands, Opera
     }
 }
 
-/// The operands with rs2.
+/// `operands` with `register` as rs2.
 fn with_rs2(operands: Operands, register: Option<u32>) -> Result<Operands, OperandFault>
     ensures { result ≡ with_rs2 operands register }
 {
@@ -223,7 +223,7 @@ fn with_rs2(operands: Operands, register: Option<u32>) -> Result<Operands, Opera
     }
 }
 
-/// The operands with an immediate.
+/// `operands` with the immediate `imm`.
 fn with_imm(operands: Operands, imm: Result<u32, OperandFault>) -> Result<Operands, OperandFault>
     ensures { result ≡ with_imm operands imm }
 {
@@ -234,7 +234,7 @@ fn with_imm(operands: Operands, imm: Result<u32, OperandFault>) -> Result<Operan
 }
 
 impl Slot {
-    /// The operands with that of a text in its place. Labels, and how many words stand before the line, tell what a target is.
+    /// `operands` with that of `text` in its place. Labels, and how many words stand before the line, tell what a target is.
     pub fn with_operand(
         self,
         labels: &Labels,

@@ -8,14 +8,14 @@ use rv_core::table;
 use rv_model::{Instr, Operands};
 use std::alloc::{AllocError, Global};
 
-/// The name of a register by its number.
+/// The name of the register `register` by its number.
 fn register_text(alloc: Global, register: u32) -> Result<String, AllocError>
     ensures { IfOk result (λ text. string_bytes text ≡ register_text register) }
 {
     format!(in alloc; "x{register}")
 }
 
-/// A word as a signed number, in decimal.
+/// `word` as a signed number, in decimal.
 fn signed_text(alloc: Global, word: u32) -> Result<String, AllocError>
     ensures { IfOk result (λ text. string_bytes text ≡ signed_text word) }
 {
@@ -26,7 +26,7 @@ fn signed_text(alloc: Global, word: u32) -> Result<String, AllocError>
     format!(in alloc; "-{size}")
 }
 
-/// The upper 20 bits of a word, in hexadecimal.
+/// The upper 20 bits of `word`, in hexadecimal.
 fn upper_text(alloc: Global, word: u32) -> Result<String, AllocError>
     ensures { IfOk result (λ text. string_bytes text ≡ upper_text word) }
 {
@@ -34,7 +34,7 @@ fn upper_text(alloc: Global, word: u32) -> Result<String, AllocError>
     format!(in alloc; "0x{upper:x}")
 }
 
-/// The text of an operand.
+/// The text of the operand of `operands` that `slot` names.
 fn operand_text(alloc: Global, operands: &Operands, slot: Slot) -> Result<String, AllocError>
     ensures { IfOk result (λ text. string_bytes text ≡ operand_text operands.now slot) }
 {
@@ -52,16 +52,15 @@ fn operand_text(alloc: Global, operands: &Operands, slot: Slot) -> Result<String
     }
 }
 
-/// What stands in front of an operand: a space before the first, a comma and a space before each other.
+/// What stands in front of the operand `index`: a space before the first, a comma and a space before each other.
 fn separator(index: usize) -> &'static str
     ensures { result.now ≡ separator index }
 {
     if index == 0 { " " } else { ", " }
 }
 
-/// The text of an instruction: its name, a space and the operands, with `, ` between them. Registers are `x0` to `x31`. Numbers are
-/// decimal, but those of lui and auipc are the upper 20 bits as `0x` and lower hexadecimal digits. Targets are offsets. An instruction
-/// without operands is its bare name.
+/// The text of `instr`: its name, a space and the operands, with `, ` between them. Registers are `x0` to `x31`. Numbers are decimal, but those of
+/// lui and auipc are the upper 20 bits as `0x` and lower hexadecimal digits. Targets are offsets. An instruction without operands is its bare name.
 #[tactic(auto, unfolding(crate::specs::Printed::printed))]
 pub fn print(alloc: Global, instr: &Instr) -> Result<String, AllocError>
     ensures { IfOk result (λ text. string_bytes text ≡ printed instr.now) }

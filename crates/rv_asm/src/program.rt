@@ -14,7 +14,7 @@ use crate::words::Words;
 use nova_text::{Line, Lines};
 use std::alloc::{AllocError, Global};
 
-/// How many words a line has. At fault it counts as one.
+/// How many words a line of `words` has. At fault it counts as one.
 fn word_count(words: &Result<Words, AsmFault>) -> u64
     ensures count { result ≡ shown_count (line_shown words.now) }
     ensures bound { result ≤ 2 }
@@ -25,7 +25,7 @@ fn word_count(words: &Result<Words, AsmFault>) -> u64
     }
 }
 
-/// Adds the label of a line, if it has one that is not there yet.
+/// Adds the label of `line` at `place`, if it has a label that is not there yet.
 fn add_label<'a>(labels: &mut Labels<'a>, line: Line<'a>, place: u64) -> Result<(), AllocError>
     ensures memory { OnErr result (says (row_of line.entry) ≡ true) }
     ensures label { OnOk result (places_of labels.new ≡ with_label (places_of labels.old) (labelled (row_of line.entry)).label (record { line = line.entry.number; place = place })) }
@@ -43,7 +43,7 @@ fn add_label<'a>(labels: &mut Labels<'a>, line: Line<'a>, place: u64) -> Result<
     }
 }
 
-/// The labels of a text.
+/// The labels of `text`.
 #[tactic(auto, unfolding(crate::specs::Program::takes_memory))]
 fn labels_of<'a>(alloc: Global, text: &'a [u8]) -> Result<Labels<'a>, AllocError>
     ensures labels { IfOk result (λ labels. places_of labels ≡ labels_of text.now) }
@@ -59,7 +59,7 @@ fn labels_of<'a>(alloc: Global, text: &'a [u8]) -> Result<Labels<'a>, AllocError
     Ok(labels)
 }
 
-/// The words of a text: line by line those of the instructions and numbers written there.
+/// The words of the program `text`: line by line those of the instructions and numbers written there.
 ///
 /// A fault is that of the first line at fault, and in a line the first of `TwiceLabel`, `UnknownName`, `BadOperand`, `NoLabel` and
 /// `OutOfRange`. `Memory` comes where memory is refused, and only where a line has a label or a statement.

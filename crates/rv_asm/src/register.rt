@@ -38,14 +38,14 @@ const NAMES: [(&str, &str); 32] = [
     ("x31", "t6"),
 ];
 
-/// The place of the first pair of which one is a name.
+/// The place of the first of `pairs` that has `name` on either side.
 fn place_of(pairs: &[(&str, &str)], name: &[u8]) -> Option<usize>
     ensures { result ≡ position (λ pair. is_of name.now (pair.0.now, pair.1.now)) pairs.now }
 {
     pairs.iter().position(|(number, usual)| number.as_bytes() == name || usual.as_bytes() == name)
 }
 
-/// The number of the register that has a name in the table.
+/// The number of the register that has `name` in the table.
 fn number_in_table(name: &[u8]) -> Option<usize>
     ensures named { result ≡ number_in_table name.now }
     ensures bound { IfSome result (λ number. number < 32) }
@@ -53,7 +53,7 @@ fn number_in_table(name: &[u8]) -> Option<usize>
     place_of(&NAMES, name)
 }
 
-/// The number of the register of a name, or nothing where no register has it. `s0` is also `fp`.
+/// The number of the register `name`, or nothing where no register has it. `s0` is also `fp`.
 pub fn number_named(name: &[u8]) -> Option<u32>
     ensures named { result ≡ number_named name.now }
     ensures bound { IfSome result (λ number. number < 32) }

@@ -17,7 +17,7 @@ use nova_text::{Line, Span};
 use rv_model::Operands;
 use std::alloc::{AllocError, Global};
 
-/// The graver of a fault and that of the operands after it.
+/// The graver of the fault `first` and that of the operands after it.
 fn gravest(first: FaultyOperand, rest: Result<Operands, FaultyOperand>) -> FaultyOperand
     ensures { result ≡ gravest first rest }
 {
@@ -27,7 +27,7 @@ fn gravest(first: FaultyOperand, rest: Result<Operands, FaultyOperand>) -> Fault
     }
 }
 
-/// Puts operands in their places.
+/// Puts the operands `texts` in their places, `slots`.
 fn with_operands(
     labels: &Labels,
     from: u64,
@@ -56,7 +56,7 @@ fn with_operands(
     }
 }
 
-/// The words of an instruction whose name is known.
+/// The words of the instruction `written`, whose name is known as `name`.
 fn named_words(
     labels: &Labels,
     place: u64,
@@ -76,7 +76,7 @@ fn named_words(
     }
 }
 
-/// The words of what stands after a label, or its fault.
+/// The words of `written`, what stands after a label, or its fault.
 fn statement_words(
     labels: &Labels,
     place: u64,
@@ -93,7 +93,7 @@ fn statement_words(
     }
 }
 
-/// Whether a label stands on a line before the one of a number.
+/// Whether `label` stands on a line before line `number`.
 fn is_earlier(label: Option<Label>, number: u64) -> bool
     ensures { result ≡ is_earlier number label }
 {
@@ -103,7 +103,7 @@ fn is_earlier(label: Option<Label>, number: u64) -> bool
     }
 }
 
-/// The words of a line, before which `place` words stand, or its fault. The outer result is about memory alone.
+/// The words of `line`, before which `place` words stand, or its fault. The outer result is about memory alone.
 pub fn line_words(
     alloc: Global,
     labels: &Labels,

@@ -24,28 +24,28 @@ pub struct Written<'a> {
     pub operands: Vec<Operand<'a>>,
 }
 
-/// Whether a byte may begin a name.
+/// Whether `byte` may begin a name.
 fn begins_name(byte: u8) -> bool
     ensures { result ≡ begins_name byte }
 {
     byte.is_ascii_alphabetic() || byte == b'_'
 }
 
-/// Whether a byte may stand in a name.
+/// Whether `byte` may stand in a name.
 fn continues_name(byte: u8) -> bool
     ensures { result ≡ continues_name byte }
 {
     byte.is_ascii_alphanumeric() || byte == b'_'
 }
 
-/// Whether all bytes may stand in a name.
+/// Whether all of `bytes` may stand in a name.
 fn all_continue(bytes: &[u8]) -> bool
     ensures { result ≡ list_all continues_name bytes.now }
 {
     bytes.iter().all(|&byte| continues_name(byte))
 }
 
-/// Whether a text is a letter or `_`, and then letters, digits and `_`.
+/// Whether `text` is a letter or `_`, and then letters, digits and `_`.
 pub fn is_name(text: &[u8]) -> bool
     ensures { result ≡ is_name text.now }
 {
@@ -55,7 +55,7 @@ pub fn is_name(text: &[u8]) -> bool
     }
 }
 
-/// How many separators stand in front.
+/// How many separators stand in front in the bytes.
 fn gap_len(bytes: &[u8]) -> usize
     ensures len { result ≡ gap bytes.now }
     ensures within { result ≤ length bytes.now }
@@ -77,7 +77,7 @@ fn name_len(bytes: &[u8]) -> usize
         .unwrap_or(bytes.len())
 }
 
-/// How many bytes stand before the first `sign`, or all.
+/// How many of `bytes` stand before the first `sign`; all where there is none.
 pub fn len_before(bytes: &[u8], sign: u8) -> usize
     ensures len { result ≡ position_or_len (λ b. b == sign) bytes.now }
     ensures within { result ≤ length bytes.now }
@@ -88,7 +88,7 @@ pub fn len_before(bytes: &[u8], sign: u8) -> usize
         .unwrap_or(bytes.len())
 }
 
-/// A line without the separators in front.
+/// `line` without the separators in front.
 fn without_gap(line: Line) -> Line
     ensures { row_of result ≡ without_gap (row_of line.entry) }
 {
@@ -101,7 +101,7 @@ fn without_gap(line: Line) -> Line
     }
 }
 
-/// The label that a line begins with, without its colon, and what stands after it.
+/// The label that `line` begins with, without its colon, and what stands after it.
 fn label_in(line: Line) -> Option<(Token, Line)>
     ensures { option_map label_seen result ≡ label_in (row_of line.entry) }
 {
@@ -131,7 +131,7 @@ fn label_in(line: Line) -> Option<(Token, Line)>
     }
 }
 
-/// The label of a line, without its colon, and what stands after it.
+/// The label of `line`, without its colon, and what stands after it.
 pub fn labelled(line: Line) -> (Option<Token>, Line)
     ensures { labelled_of result.0 result.1 ≡ labelled (row_of line.entry) }
 {
@@ -141,7 +141,7 @@ pub fn labelled(line: Line) -> (Option<Token>, Line)
     }
 }
 
-/// Where the last token of a line ends, or `end` where none is left.
+/// Where the last token of `line` ends, or `end` where none is left.
 fn last_end(mut line: Line, mut end: u64) -> u64
     ensures { result ≡ last_end end (tokens_left line.entry) }
 {
@@ -151,7 +151,7 @@ fn last_end(mut line: Line, mut end: u64) -> u64
     end
 }
 
-/// The operand that stands between two commas.
+/// The operand `part`, which stands between two commas.
 fn trimmed(part: Line) -> Operand
     ensures { operand_seen result ≡ operand_of (piece_of_row (row_of part.entry)) }
 {
@@ -178,7 +178,7 @@ fn trimmed(part: Line) -> Operand
     }
 }
 
-/// What stands before the first comma of a line, and what stands after it, if there is one.
+/// What stands before the first comma of `line`, and what stands after it, if there is one.
 fn cut_at_comma(line: Line) -> (Line, Option<Line>)
     ensures parts { parts_left (Some (row_of line.entry)) ≡ piece_of_row (row_of result.0) ∷ parts_left (option_map row_of result.1) }
     ensures shorter { left_len (option_map row_of result.1) ≤ length line.entry.text.now }
@@ -202,7 +202,7 @@ fn cut_at_comma(line: Line) -> (Line, Option<Line>)
     }
 }
 
-/// The operands of a line that has a token.
+/// The operands of `line`, which has a token.
 fn operands<'a>(alloc: Global, line: Line<'a>) -> Result<Vec<Operand<'a>>, AllocError>
     ensures { IfOk result (λ operands. map operand_seen operands.items ≡ separated (row_of line.entry)) }
 {
@@ -220,7 +220,7 @@ fn operands<'a>(alloc: Global, line: Line<'a>) -> Result<Vec<Operand<'a>>, Alloc
     Ok(operands)
 }
 
-/// The operands of a line: none where no token is left.
+/// The operands of `line`: none where no token is left.
 fn operands_in<'a>(alloc: Global, line: Line<'a>) -> Result<Vec<Operand<'a>>, AllocError>
     ensures { IfOk result (λ operands. map operand_seen operands.items ≡ operands_in (row_of line.entry)) }
 {
@@ -231,7 +231,7 @@ fn operands_in<'a>(alloc: Global, line: Line<'a>) -> Result<Vec<Operand<'a>>, Al
     operands(alloc, line)
 }
 
-/// What a line holds after its label: nothing, or the name of an instruction and operands.
+/// What `line` holds after its label: nothing, or the name of an instruction and operands.
 pub fn parts<'a>(alloc: Global, line: Line<'a>) -> Result<Option<Written<'a>>, AllocError>
     ensures parts { IfOk result (λ found. option_map written_of found ≡ written (row_of line.entry)) }
     ensures memory { IfErr result (λ _. is_some (written (row_of line.entry)) ≡ true) }

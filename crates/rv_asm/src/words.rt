@@ -19,7 +19,7 @@ pub enum Words {
 }
 
 impl Words {
-    /// How many they are.
+    /// How many words they are.
     pub fn count(self) -> u64
         ensures { result ≡ length (words_in self) }
     {
@@ -30,7 +30,7 @@ impl Words {
         }
     }
 
-    /// Appends them to a list. Where memory is refused, a part of them may be there.
+    /// Appends the words to `list`. Where memory is refused, a part of them may be there.
     pub fn push_to(self, list: &mut Vec<u32>) -> Result<(), AllocError>
         ensures words { OnOk result (list.new.items ≡ list.old.items ++ words_in self) }
         ensures memory { OnErr result (1 ≤ length (words_in self)) }
@@ -47,7 +47,7 @@ impl Words {
     }
 }
 
-/// The low twelve bits of a number as a signed number.
+/// The low twelve bits of `number` as a signed number.
 fn lower_part(number: u32) -> u32
     ensures { result ≡ lower_part number }
 {
@@ -55,14 +55,14 @@ fn lower_part(number: u32) -> u32
     if low < 0x800 { low } else { low + 0xffff_f000 }
 }
 
-/// The word of an instruction.
+/// The word of the instruction `mnemonic` with `operands`.
 fn word(mnemonic: Mnemonic, operands: Operands) -> u32
     ensures { result ≡ item_word (Does (instr_from mnemonic operands)) }
 {
     encode(&table::instr_from(mnemonic, operands))
 }
 
-/// The words of `li`.
+/// The words of `li` with `operands`.
 fn load_immediate(operands: Operands) -> Words
     ensures { words_in result ≡ map item_word (items_of (Short Li) operands) }
 {
@@ -79,7 +79,7 @@ fn load_immediate(operands: Operands) -> Words
     Words::Two(word(Mnemonic::Lui, upper), word(Mnemonic::Addi, addition))
 }
 
-/// The words of a name with its operands.
+/// The words of the instruction `name` with `operands`.
 pub fn words_of(name: Name, operands: Operands) -> Words
     ensures { words_in result ≡ map item_word (items_of name operands) }
 {

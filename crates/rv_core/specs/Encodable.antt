@@ -6,7 +6,7 @@ use Rattle.rv_model.specs.declared.mnemonic.Format.{Format}
 use Rattle.rv_model.specs.declared.mnemonic.Format.TheVariants as format
 use Rattle.rv_core.specs.Rows.{HasRegisters}
 
--- a signed number of so many bits, as a word
+-- a signed number of `bits` bits, as a word
 abbrev pub IsSigned : ℕ → ℕ → Type 0
 IsSigned bits n = (n < 2 ^ (bits - 1)) ⊎ ((2 ^ 32 - 2 ^ (bits - 1) ≤ n) × (n < 2 ^ 32))
 

@@ -24,7 +24,7 @@ FollowsAlone (Raised reason q0 q1) r outcome r' = (outcome ≡ Raise reason q0 q
 FollowsAlone (Went next None) r outcome r' = (outcome ≡ Next) × (r' ≡ next)
 FollowsAlone (Went next (Some store)) r outcome r' = ⊥
 
--- how a number of so many bytes that was loaded becomes a word
+-- how a loaded number of `width` bytes becomes a word
 abbrev pub extension_of : Extension → ℕ → ℕ → ℕ
 extension_of Zero width n = n
 extension_of Sign width n = extended (8 * width) n

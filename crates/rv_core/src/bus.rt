@@ -23,14 +23,13 @@ pub trait Bus {
     // There is room for one more store.
     ghost room: { State → Type 0 };
 
-    /// The word at an address that may be executed, or nothing. The state stays as it was.
+    /// The word at `addr`, which may be executed, or nothing. The state stays as it was.
     fn fetch(&mut self, addr: u32) -> Option<u32>
         requires { addr % 4 ≡ 0 }
         ensures gives { result ≡ fetched (state self.old) addr }
         ensures keeps { state self.new ≡ state self.old };
 
-    /// The number in 1, 2 or 4 bytes at an address that may be read, or nothing. The state stays as
-    /// it was.
+    /// The number in the `width` bytes, 1, 2 or 4, at `addr`, which may be read, or nothing. The state stays as it was.
     fn load(&mut self, addr: u32, width: u32) -> Option<u32>
         requires width { (width ≡ 1) ⊎ ((width ≡ 2) ⊎ (width ≡ 4)) }
         requires aligned { addr % width ≡ 0 }
@@ -38,7 +37,7 @@ pub trait Bus {
         ensures fits { IfSome result (λ n. n < 2 ^ (8 * width)) }
         ensures keeps { state self.new ≡ state self.old };
 
-    /// Puts a number into 1, 2 or 4 bytes at an address that may be written, and says whether it
+    /// Puts `value` into the `width` bytes, 1, 2 or 4, at `addr`, which may be written, and says whether it
     /// did. A store that is refused leaves the state as it was.
     fn store(&mut self, addr: u32, width: u32, value: u32) -> bool
         requires width { (width ≡ 1) ⊎ ((width ≡ 2) ⊎ (width ≡ 4)) }

@@ -9,7 +9,7 @@ ghost use Rattle.rv_model.specs.Codes.{immediate_of, operands_in, instr_of};
 use crate::table;
 use rv_model::{Format, Instr, Mnemonic, Operands};
 
-/// The number in the `count` bits of a word from bit `low` on.
+/// The number in the `count` bits of `word` from bit `low` on.
 pub(crate) fn field_of(word: u32, low: u32, count: u32) -> u32
     requires low { low < 32 }
     requires count { count < 32 }
@@ -18,7 +18,7 @@ pub(crate) fn field_of(word: u32, low: u32, count: u32) -> u32
     (word >> low) & ((1 << count) - 1)
 }
 
-/// A number of so many bits with its sign extended to 32.
+/// Extends the sign of `number`, of `bits` bits, to 32.
 pub(crate) fn extend(number: u32, bits: u32) -> u32
     requires some { 0 < bits }
     requires bits { bits < 32 }
@@ -32,7 +32,7 @@ pub(crate) fn extend(number: u32, bits: u32) -> u32
     }
 }
 
-/// The immediate that a word holds in a format.
+/// The immediate that `word` holds in `format`.
 fn immediate(format: Format, word: u32) -> u32
     ensures { result ≡ immediate_of format word }
 {
@@ -59,7 +59,7 @@ fn immediate(format: Format, word: u32) -> u32
     }
 }
 
-/// The operands that a word holds in a format: the registers in their places, and the immediate.
+/// The operands that `word` holds in `format`: the registers in their places, and the immediate.
 fn operands_in(format: Format, word: u32) -> Operands
     ensures fields { result ≡ operands_in format word }
     ensures registers { HasRegisters result }
@@ -72,7 +72,7 @@ fn operands_in(format: Format, word: u32) -> Operands
     }
 }
 
-/// The name of the instruction that a word is, or nothing where it has no row in the table.
+/// The name of the instruction that `word` is, or nothing where it has no row in the table.
 #[inline(always)]
 fn mnemonic_in(word: u32) -> Option<Mnemonic>
     ensures { result ≡ mnemonic_in word }
@@ -94,7 +94,7 @@ fn mnemonic_in(word: u32) -> Option<Mnemonic>
     }
 }
 
-/// The branch that a word with the branches' opcode is.
+/// The branch that `word`, with the branches' opcode, is.
 fn branch(word: u32) -> Option<Mnemonic>
     requires { field word 0 7 ≡ branch_code }
     ensures { result ≡ mnemonic_in word }
@@ -110,7 +110,7 @@ fn branch(word: u32) -> Option<Mnemonic>
     }
 }
 
-/// The load that a word with the loads' opcode is.
+/// The load that `word`, with the loads' opcode, is.
 fn load(word: u32) -> Option<Mnemonic>
     requires { field word 0 7 ≡ load_code }
     ensures { result ≡ mnemonic_in word }
@@ -125,7 +125,7 @@ fn load(word: u32) -> Option<Mnemonic>
     }
 }
 
-/// The store that a word with the stores' opcode is.
+/// The store that `word`, with the stores' opcode, is.
 fn store(word: u32) -> Option<Mnemonic>
     requires { field word 0 7 ≡ store_code }
     ensures { result ≡ mnemonic_in word }
@@ -138,7 +138,7 @@ fn store(word: u32) -> Option<Mnemonic>
     }
 }
 
-/// The operation on a register and an immediate that a word with their opcode is.
+/// The operation on a register and an immediate that `word`, with their opcode, is.
 fn immediate_operation(word: u32) -> Option<Mnemonic>
     requires { field word 0 7 ≡ immediate_code }
     ensures { result ≡ mnemonic_in word }
@@ -157,7 +157,7 @@ fn immediate_operation(word: u32) -> Option<Mnemonic>
     }
 }
 
-/// The operation on two registers that a word with their opcode is.
+/// The operation on two registers that `word`, with their opcode, is.
 fn register_operation(word: u32) -> Option<Mnemonic>
     requires { field word 0 7 ≡ register_code }
     ensures { result ≡ mnemonic_in word }
@@ -177,7 +177,7 @@ fn register_operation(word: u32) -> Option<Mnemonic>
     }
 }
 
-/// The system instruction that a word with their opcode is.
+/// The system instruction that `word`, with their opcode, is.
 fn system(word: u32) -> Option<Mnemonic>
     requires { field word 0 7 ≡ system_code }
     ensures { result ≡ mnemonic_in word }
@@ -189,7 +189,7 @@ fn system(word: u32) -> Option<Mnemonic>
     }
 }
 
-/// The name and the operands of the instruction that a word is, or nothing where it is none.
+/// The name and the operands of the instruction that `word` is, or nothing where it is none.
 #[inline(always)]
 #[tactic(auto, unfolding(rv_model::specs::Codes::instr_of))]
 pub(crate) fn parts(word: u32) -> Option<(Mnemonic, Operands)>
@@ -200,8 +200,7 @@ pub(crate) fn parts(word: u32) -> Option<(Mnemonic, Operands)>
     Some((mnemonic, operands_in(table::format(mnemonic), word)))
 }
 
-/// The instruction that a word is, or nothing where no row of the table has it. (RV32I, "Base
-/// Instruction Formats".)
+/// The instruction that `word` is, or nothing where no row of the table has it. (RV32I, "Base Instruction Formats".)
 pub fn decode(word: u32) -> Option<Instr>
     ensures table { result ≡ instr_of word }
     ensures encodable { IfSome result IsEncodable }

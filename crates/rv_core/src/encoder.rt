@@ -7,14 +7,14 @@ use crate::table;
 use crate::table::Row;
 use rv_model::{Format, Instr, Operands};
 
-/// A code of a row, or 0 where the row leaves it open.
+/// The code `fixed` of a row, or 0 where the row leaves it open.
 fn code(fixed: Option<u32>) -> u32
     ensures { result ≡ code fixed }
 {
     fixed.unwrap_or(0)
 }
 
-/// The word of a format with these codes and operands.
+/// The word of `format` with these codes and operands.
 fn packed(format: Format, opcode: u32, funct3: u32, funct7: u32, operands: Operands) -> u32
     requires opcode { opcode < 2 ^ 7 }
     requires funct3 { funct3 < 2 ^ 3 }
@@ -49,7 +49,7 @@ fn packed(format: Format, opcode: u32, funct3: u32, funct7: u32, operands: Opera
     }
 }
 
-/// The word of an instruction; of fence, which has many, `0x0ff0_000f`. A register counts by its low
+/// The word that encodes `instr`; a fence, which has several, is `0x0ff0_000f`. A register counts by its low
 /// five bits, and an immediate by the bits that its format holds.
 #[tactic(auto, unfolding(rv_model::specs::Codes::word_of))]
 pub fn encode(instr: &Instr) -> u32

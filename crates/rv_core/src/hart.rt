@@ -15,7 +15,7 @@ use crate::outcome::{
 use crate::readings::{Reading, Readings};
 use rv_model::{Mnemonic, Operands, Regs};
 
-/// On to the next instruction.
+/// Goes on to the next instruction.
 #[inline(always)]
 fn go_on(regs: &mut Regs) -> Outcome
     ensures done { result ≡ Outcome.Next }
@@ -25,7 +25,7 @@ fn go_on(regs: &mut Regs) -> Outcome
     Outcome::Next
 }
 
-/// On to the next instruction, with a value in rd.
+/// Goes on to the next instruction, with `value` in rd.
 #[inline(always)]
 fn set(regs: &mut Regs, rd: u32, value: u32) -> Outcome
     requires { rd < 32 }
@@ -35,7 +35,7 @@ fn set(regs: &mut Regs, rd: u32, value: u32) -> Outcome
     go_on(regs)
 }
 
-/// To an address, which must be a multiple of 4.
+/// Goes to `target`, which must be a multiple of 4.
 #[inline(always)]
 fn go(regs: &mut Regs, target: u32) -> Outcome
     ensures { FollowsAlone (goes regs.old target) regs.old result regs.new }
@@ -47,7 +47,7 @@ fn go(regs: &mut Regs, target: u32) -> Outcome
     Outcome::Next
 }
 
-/// To an address, which must be a multiple of 4, with the address of the next instruction in rd.
+/// Goes to `target`, which must be a multiple of 4, with the address of the next instruction in rd.
 #[inline(always)]
 fn jump(regs: &mut Regs, rd: u32, target: u32) -> Outcome
     requires { rd < 32 }
@@ -62,7 +62,7 @@ fn jump(regs: &mut Regs, rd: u32, target: u32) -> Outcome
     Outcome::Next
 }
 
-/// To pc and an offset where the test holds, else on.
+/// Goes to pc + `offset` where `test` holds, else on.
 #[inline(always)]
 fn branch(regs: &mut Regs, test: bool, offset: u32) -> Outcome
     ensures { FollowsAlone (branches regs.old test offset) regs.old result regs.new }
@@ -89,7 +89,7 @@ enum Extension {
     Sign,
 }
 
-/// How a number that an instruction loads becomes a word.
+/// How a number that the instruction `mnemonic` loads becomes a word.
 #[inline(always)]
 fn extension_by(mnemonic: Mnemonic) -> Extension
     ensures sign { (mnemonic ≡ Mnemonic.Lb) ⊎ (mnemonic ≡ Mnemonic.Lh) → result ≡ Extension.Sign }
@@ -101,7 +101,7 @@ fn extension_by(mnemonic: Mnemonic) -> Extension
     }
 }
 
-/// Loads a number of a width from an aligned address into rd.
+/// Loads a number of `width` bytes from `addr`, which must be aligned, into rd.
 #[inline(always)]
 fn load<B: Bus>(
     regs: &mut Regs,
@@ -131,7 +131,7 @@ fn load<B: Bus>(
     set(regs, rd, value)
 }
 
-/// Stores the low bytes of a value to an aligned address.
+/// Stores the low `width` bytes of `value` to `addr`, which must be aligned.
 #[inline(always)]
 fn store<B: Bus>(regs: &mut Regs, bus: &mut B, width: u32, addr: u32, value: u32) -> Outcome
     requires width { (width ≡ 1) ⊎ ((width ≡ 2) ⊎ (width ≡ 4)) }
@@ -150,7 +150,7 @@ fn store<B: Bus>(regs: &mut Regs, bus: &mut B, width: u32, addr: u32, value: u32
     }
 }
 
-/// The number in the lowest bytes of a word.
+/// The number in the lowest `width` bytes of `value`.
 #[inline(always)]
 fn low_bytes(value: u32, width: u32) -> u32
     requires width { (width ≡ 1) ⊎ ((width ≡ 2) ⊎ (width ≡ 4)) }
@@ -164,7 +164,7 @@ fn low_bytes(value: u32, width: u32) -> u32
     }
 }
 
-/// What an instruction does, by its name and operands.
+/// Executes the instruction `mnemonic` with `operands`.
 #[inline(always)]
 fn execute<B: Bus>(regs: &mut Regs, bus: &mut B, mnemonic: Mnemonic, operands: Operands) -> Outcome
     requires registers { HasRegisters operands }
@@ -299,7 +299,7 @@ fn execute<B: Bus>(regs: &mut Regs, bus: &mut B, mnemonic: Mnemonic, operands: O
     }
 }
 
-/// A value shifted to the right by the low five bits of an amount, with copies of its sign.
+/// `value` shifted to the right by the low five bits of `amount`, with copies of its sign.
 #[inline(always)]
 fn shift_right_signed(value: u32, amount: u32) -> u32
     ensures { result ≡ shift_right_signed value amount }
@@ -307,8 +307,8 @@ fn shift_right_signed(value: u32, amount: u32) -> u32
     (value.cast_signed() >> (amount % 32)).cast_unsigned()
 }
 
-/// One instruction: the first raise that holds, which changes no register and no memory, or the
-/// next registers and at most one store. (RV32I, chapter 2.)
+/// Executes the instruction at the pc of `regs` over `bus`: the first raise that holds, which changes no
+/// register and no memory, or the next registers and at most one store. (RV32I, chapter 2.)
 #[tactic(auto, unfolding(rv_model::specs::Step::one))]
 pub fn step<B: Bus>(regs: &mut Regs, bus: &mut B) -> Outcome
     requires { B.room (B.state bus.old) }
@@ -329,7 +329,7 @@ pub fn step<B: Bus>(regs: &mut Regs, bus: &mut B) -> Outcome
     execute(regs, bus, mnemonic, operands)
 }
 
-/// One instruction, as `step` does it. What words read as is remembered.
+/// Executes one instruction, as `step` does it, with `readings` in place of decoding its word anew. What words read as is remembered.
 #[inline(always)]
 #[tactic(auto, unfolding(rv_model::specs::Step::one))]
 pub fn step_read<B: Bus>(regs: &mut Regs, bus: &mut B, readings: &mut Readings) -> Outcome
@@ -351,7 +351,7 @@ pub fn step_read<B: Bus>(regs: &mut Regs, bus: &mut B, readings: &mut Readings) 
     execute(regs, bus, reading.mnemonic, reading.operands)
 }
 
-/// One instruction, as `step` does it, of which the word at pc was read before.
+/// Executes one instruction, as `step` does it, whose word at pc was read before as `reading`.
 #[inline(always)]
 #[tactic(auto, unfolding(rv_model::specs::Step::one))]
 pub fn step_known<B: Bus>(regs: &mut Regs, bus: &mut B, reading: Reading) -> Outcome

@@ -48,7 +48,7 @@ pub fn neighbours_are_illegal()
         field w 25 7 ≢ 0x20 → instr_of w ≡ None }
 {}
 
-/// Each name is found, and so it is that of one instruction alone.
+/// Each name of the table is found, so that no two instructions share a name.
 pub fn names_are_distinct()
     ensures { (m : Mnemonic) → mnemonic_named (row_of m).name ≡ Some m }
 {}

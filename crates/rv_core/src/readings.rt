@@ -20,7 +20,7 @@ pub struct Reading {
 }
 
 impl Reading {
-    /// What a word reads as; nothing where it is no instruction.
+    /// What `word` reads as; nothing where it is no instruction.
     pub fn of(word: u32) -> Option<Reading>
         ensures word { IfSome result (λ r. r.word ≡ word) }
         ensures none { result ≡ None → instr_of word ≡ None }
@@ -40,8 +40,8 @@ impl Reading {
         nothing()
     }
 
-    /// Becomes the reading of a word, or answers false where that is no instruction. Few words are decoded, so that
-    /// this stays out of the code of each.
+    /// Becomes the reading of `word`, or answers false where that is no instruction. Few words are decoded, so that this stays out of the code of
+    /// each.
     #[inline(never)]
     fn learn(&mut self, word: u32) -> bool
         ensures word { result ≡ true → self.new.word ≡ word }
@@ -66,7 +66,7 @@ pub struct Readings {
     places: [Reading; PLACES],
 }
 
-/// The place of a word.
+/// The place of `word`.
 #[inline(always)]
 fn place_of(word: u32) -> usize
     ensures { result < PLACES }
@@ -100,7 +100,7 @@ impl Readings {
         }
     }
 
-    /// What a word reads as, from now on remembered; nothing where it is no instruction.
+    /// What `word` reads as, from now on remembered; nothing where it is no instruction.
     #[inline(always)]
     pub(crate) fn read(&mut self, word: u32) -> Option<&Reading>
         ensures word { IfSome result (λ r. r.now.word ≡ word) }

@@ -4,8 +4,8 @@ ghost use Rattle.rv_core.specs.Rows.{mnemonic_named};
 
 use rv_model::{Format, Instr, Mnemonic, Operands};
 
-/// A row of the instruction table: the name, how a word holds the operands, and what the opcode
-/// (bits 0 to 6), funct3 (bits 12 to 14) and funct7 (bits 25 to 31) of a word must be.
+/// A row of the instruction table: the name, how a word holds the operands, and what must stand in a word's
+/// fixed bits. These are the opcode (bits 0 to 6), funct3 (bits 12 to 14) and funct7 (bits 25 to 31).
 #[derive(Clone, Copy)]
 pub struct Row {
     pub name: &'static str,
@@ -37,7 +37,7 @@ impl Row {
         }
     }
 
-    /// The row of an instruction.
+    /// The row of the instruction named `mnemonic`.
     pub fn of(mnemonic: Mnemonic) -> Row
         ensures row { IsRow result (row_of mnemonic) }
         ensures codes { HasCodes result }
@@ -131,14 +131,14 @@ const MNEMONICS: [Mnemonic; 40] = [
     Mnemonic::Ebreak,
 ];
 
-/// The name of an instruction, in lower case.
+/// The name of `mnemonic`, in lower case.
 pub fn name(mnemonic: Mnemonic) -> &'static str
     ensures { result.now ≡ (row_of mnemonic).name }
 {
     Row::of(mnemonic).name
 }
 
-/// The instruction of a name, or nothing where no instruction has it.
+/// The instruction that is named `text`, or nothing where no instruction has that name.
 pub fn named(text: &[u8]) -> Option<Mnemonic>
     ensures { result ≡ mnemonic_named text.now }
 {
@@ -148,14 +148,14 @@ pub fn named(text: &[u8]) -> Option<Mnemonic>
         .find(|mnemonic| name(*mnemonic).as_bytes() == text)
 }
 
-/// How a word holds the operands of an instruction.
+/// How a word holds the operands of the instruction named `mnemonic`.
 pub fn format(mnemonic: Mnemonic) -> Format
     ensures { result ≡ (row_of mnemonic).format }
 {
     Row::of(mnemonic).format
 }
 
-/// The instruction of a name and operands. Operands that its format lacks are passed over.
+/// The instruction named `mnemonic` with `operands`. Operands that its format lacks are passed over.
 pub fn instr_from(mnemonic: Mnemonic, operands: Operands) -> Instr
     ensures { result ≡ instr_from mnemonic operands }
 {
@@ -204,7 +204,7 @@ pub fn instr_from(mnemonic: Mnemonic, operands: Operands) -> Instr
     }
 }
 
-/// The name of an instruction.
+/// The name of `instr`.
 pub fn mnemonic(instr: &Instr) -> Mnemonic
     ensures { result ≡ mnemonic_of instr.now }
 {
@@ -252,7 +252,7 @@ pub fn mnemonic(instr: &Instr) -> Mnemonic
     }
 }
 
-/// The operands of an instruction. What its format lacks is 0.
+/// The operands of `instr`. What its format lacks is 0.
 pub fn operands(instr: &Instr) -> Operands
     ensures { result ≡ operands_of instr.now }
 {

@@ -13,6 +13,6 @@ minus a b = (a + (2 ^ 32 - b)) % 2 ^ 32
 abbrev pub field : ℕ → ℕ → ℕ → ℕ
 field word low count = word / 2 ^ low % 2 ^ count
 
--- a number of so many bits with its sign extended to 32
+-- a number of `bits` bits with its sign extended to 32
 abbrev pub extended : ℕ → ℕ → ℕ
 extended bits n = if nat_lt n (2 ^ (bits - 1)) then n else n + (2 ^ 32 - 2 ^ bits)

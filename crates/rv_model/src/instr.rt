@@ -1,5 +1,5 @@
-/// An instruction: a variant for each name of the table, with the registers of its format (0 to 31)
-/// and its immediate, sign-extended to a word, or its shift amount (0 to 31).
+/// An instruction, a variant for each name of the table. It has the registers of its format (0 to 31) and its
+/// immediate, sign-extended to a word, or its shift amount (0 to 31).
 #[derive(Clone, Copy)]
 pub enum Instr {
     // Upper immediates and jumps.

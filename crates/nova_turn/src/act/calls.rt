@@ -15,7 +15,8 @@ use nova_model::{Admit, Deed, Mark, Sequel, State};
 use nova_utcb::Utcb;
 
 impl Parts {
-    /// Its call is sent: the handler gets the message, and begins.
+    /// Sends the call of `ec`: the handler gets the message, and begins.
+    #[inline(always)]
     pub(crate) fn send(&mut self, ec: u32, handler: u32, ip: u32, identifier: u32)
         requires there { IsSome (context_at (state_of self.old) ec) }
         requires admitted { admitted (state_of self.old).contexts ec handler false ≡ Admit.Send }
@@ -32,7 +33,7 @@ impl Parts {
         begin(&mut self.contexts, ec, handler, ip, identifier, items);
     }
 
-    /// A reply brings a caller who called its message; one who came by an exit gets none.
+    /// Copies the message of `ec`, which replies, to `caller`, where it called; a caller that came by an exit gets none.
     fn bring(&mut self, ec: u32, caller: u32, mark: Mark)
         requires counts { has_counts (message (state_of self.old) ec) ≡ true }
         requires there { caller < length (state_of self.old).messages }
@@ -45,7 +46,7 @@ impl Parts {
         }
     }
 
-    /// A reply completes: the execution context waits for a call, and its caller goes on.
+    /// Completes a reply: `ec` waits for a call, and `caller` goes on.
     #[inline(always)]
     pub(crate) fn complete(&mut self, ec: u32, caller: u32, mark: Mark)
         requires { caller_in (state_of self.old).contexts ec ≡ Some (caller, mark) }
@@ -61,8 +62,8 @@ impl Parts {
         }
     }
 
-    /// It replies: a caller who called gets the message, and where no items are to be given the reply
-    /// completes.
+    /// `ec` replies to `caller`: a caller that called gets the message, and where no items are to be given the reply completes.
+    #[inline(always)]
     pub(crate) fn reply_to(&mut self, ec: u32, caller: u32, mark: Mark, items: bool)
         requires caller { caller_in (state_of self.old).contexts ec ≡ Some (caller, mark) }
         requires counts { has_counts (message (state_of self.old) ec) ≡ true }

@@ -10,7 +10,7 @@ ghost use Rattle.nova_turn.specs.Views.{ticks_of, left_of};
 use crate::parts::Parts;
 
 impl Parts {
-    /// The turns that a scheduling context paid for; none where no scheduling context has the number.
+    /// The turns that the scheduling context `sc` paid for; none where no scheduling context has the number.
     #[tactic(auto, using(nova_choice::proofs::Budgets::budget_queued))]
     pub fn ticks(&self, sc: u32) -> Option<u64>
         ensures { result ≡ ticks_of (state_of self.now) sc }
@@ -22,8 +22,7 @@ impl Parts {
         }
     }
 
-    /// The turns that are left of a scheduling context's quantum; none where no scheduling context has
-    /// the number.
+    /// The turns that are left of the quantum of the scheduling context `sc`; none where no scheduling context has the number.
     #[tactic(auto, using(nova_choice::proofs::Budgets::budget_queued))]
     pub fn left(&self, sc: u32) -> Option<u32>
         ensures { result ≡ left_of (state_of self.now) sc }
@@ -35,7 +34,7 @@ impl Parts {
         }
     }
 
-    /// The scheduling context pays a turn.
+    /// Charges a turn to the scheduling context `sc`.
     fn pay(&mut self, sc: u32)
         requires queued { AreQueued (state_of self.old) self.old.queues.all }
         requires there { IsSome (queues.queued_at self.old.queues.all sc) }
@@ -52,7 +51,7 @@ impl Parts {
         self.queues.charge(sc);
     }
 
-    /// The turn is counted, for the kernel and for the processor, whose clock goes on.
+    /// Counts the turn, for the kernel and for the processor `cpu`, whose clock goes on.
     pub(crate) fn count(&mut self, cpu: u32)
         requires turns { self.old.turns < 2 ^ 31 }
         requires cpu { cpu < length self.old.times.all.clocks }
@@ -68,7 +67,8 @@ impl Parts {
         self.times.tick(cpu);
     }
 
-    /// A turn of the processor is charged to the scheduling context.
+    /// Charges a turn of the processor `cpu` to the scheduling context `sc`.
+    #[inline(always)]
     #[tactic(auto, unfolding(nova_model::specs::Turn::charged))]
     pub fn charge(&mut self, cpu: u32, sc: u32)
         requires charged { IsToBeCharged (state_of self.old) }

@@ -66,7 +66,7 @@ fn reserve_counts(
 }
 
 impl Parts {
-    /// Makes room for one more object and its capability, which a protection domain holds.
+    /// Makes room for one more object and its capability, which the protection domain `domain` holds.
     pub(crate) fn reserve(&mut self, domain: u32) -> Result<(), AllocError>
         requires objects { length (state_of self.old).objects < 2 ^ 32 }
         requires numbers { length (state_of self.old).semaphores < 2 ^ 32 - 1 }
@@ -92,8 +92,9 @@ impl Parts {
         Ok(())
     }
 
-    /// Makes room for what a deed of an execution context makes, whose protection domain is given: for a child, and for an object and
-    /// its capability; for a protection domain a space of its own too, and for a scheduling context a place in the queue of its processor.
+    /// Makes room for what `deed`, of an execution context of the protection domain `domain`, makes: for a child, and for an object and its
+    /// capability; for a protection domain a space of its own too, and for a scheduling context a place in the queue of its processor.
+    #[inline(always)]
     pub(crate) fn make_room(&mut self, domain: u32, deed: Deed) -> Result<(), AllocError>
         requires objects { length (state_of self.old).objects < 2 ^ 32 }
         requires numbers { length (state_of self.old).semaphores < 2 ^ 32 - 1 }
@@ -129,8 +130,7 @@ impl Parts {
         }
     }
 
-    /// Adds an object of the next number, and its capability at a selector, in the room that was
-    /// made.
+    /// Adds the object `new`, of the next number, and its capability to `pd` at `selector`, in the room that was made.
     #[tactic(auto, using(nova_deeds::proofs::Added::added))]
     pub(crate) fn add_object(&mut self, pd: u32, selector: u32, new: NewObject)
         requires room { HasRoom pd self.old }

@@ -17,7 +17,7 @@ use nova_model::{Deed, NewObject};
 use nova_revoke::Revoke;
 
 impl Parts {
-    /// The recall of an execution context is asked for.
+    /// Asks for the recall of the execution context `ec`.
     fn ask_recall(&mut self, ec: u32)
         requires { ec < length (state_of self.old).contexts }
         ensures recalled { state_of self.new ≡ recalled (state_of self.old) ec (context_at (state_of self.old) ec) }
@@ -28,7 +28,7 @@ impl Parts {
         }
     }
 
-    /// The execution context does a deed that tells others nothing, in the room that was made.
+    /// Does `deed` of `ec`, which tells others nothing, in the room that was made.
     fn perform_alone(&mut self, ec: u32, deed: Deed)
         requires there { IsSome (context_at (state_of self.old) ec) }
         requires counted { IsCounted (state_of self.old) }
@@ -64,7 +64,8 @@ impl Parts {
         }
     }
 
-    /// The execution context does its deed, in the room that was made. An instruction isn't done here.
+    /// Does `deed` of `ec`, in the room that was made. An instruction isn't done here.
+    #[inline(always)]
     pub(crate) fn perform(&mut self, ec: u32, deed: Deed)
         requires there { IsSome (context_at (state_of self.old) ec) }
         requires acts { acts (state_of self.old).contexts ec ≡ true }

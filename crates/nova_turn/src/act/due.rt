@@ -1,19 +1,17 @@
-ghost use Rattle.std.specs.Prelude.{◌≡◌, ◌^◌, ◌<◌, ◌+◌, true, slice_get, Some, None, IsSome, IfSome, option_map};
+ghost use Rattle.std.specs.Prelude.{◌≡◌, ◌^◌, ◌<◌, true, slice_get, Some, None, Ok, IsSome, IfSome, option_map};
 ghost use Rattle.nova_model.specs.Choice.{choice};
-ghost use Rattle.nova_model.specs.Runs.{after};
 ghost use Rattle.nova_model.specs.State.{context_at};
 ghost use Rattle.nova_model.specs.Semaphores.{semaphore, upped, woken};
 ghost use Rattle.nova_model.specs.Times.{due_on, goes_on, rung};
-ghost use Rattle.nova_model.specs.Turn.{answer_of, event_without, status_of, turn, what_is_due, whom_of};
+ghost use Rattle.nova_model.specs.Turn.{event_without, status_of, what_is_due, whom_of};
 ghost use Rattle.nova_model.specs.declared.times.Due.TheVariants as due;
 ghost use Rattle.nova_choice.specs.Choices.{chosen_of};
 ghost use Rattle.nova_choice.specs.Schedules.{AreQueued};
 ghost use Rattle.nova_deeds.specs.Counted.{IsCounted};
 ghost use Rattle.nova_deeds.specs.Passing.{fallen};
-ghost use Rattle.nova_turn.specs.Going.{KeepsRest};
-ghost use Rattle.nova_turn.specs.Parts.{state_of};
-ghost use Rattle.nova_turn.specs.Revoking.{AreRunning};
-ghost use Rattle.nova_turn.specs.Views.{turns_taken};
+ghost use Rattle.nova_turn.specs.Going.{AreInStep, KeepsRest};
+ghost use Rattle.nova_turn.specs.Parts.{state_of, view_of};
+ghost use Rattle.nova_turn.specs.Views.{IsTurnTaken};
 
 use crate::parts::Parts;
 use nova_model::{Due, Event, EventKind, Overflow, Turn};
@@ -137,19 +135,12 @@ impl Parts {
     #[inline(never)]
     pub(crate) fn come_due(&mut self, cpu: u32) -> Turn
         requires due { IsSome (due_on (state_of self.old).times cpu) }
-        requires counted { IsCounted (state_of self.old) }
-        requires queued { AreQueued (state_of self.old) self.old.queues.all }
-        requires running { AreRunning (state_of self.old) self.old.revokes }
+        requires tables { AreInStep self.old }
         requires turns { self.old.turns < 2 ^ 31 }
         requires cpu { cpu < self.old.cpus }
-        ensures answer { result ≡ answer_of (turn (state_of self.old) cpu) }
-        ensures state { state_of self.new ≡ after (state_of self.old) cpu }
-        ensures counted { IsCounted (state_of self.new) }
-        ensures queued { AreQueued (state_of self.new) self.new.queues.all }
-        ensures running { AreRunning (state_of self.new) self.new.revokes }
+        ensures taken { IsTurnTaken {E = Unit {0}} (view_of self.old) (view_of self.new) cpu (Ok result) }
+        ensures tables { AreInStep self.new }
         ensures log { self.new.reach.room ≡ self.old.reach.room }
-        ensures turns { self.new.turns ≡ self.old.turns + turns_taken result }
-        ensures cpus { self.new.cpus ≡ self.old.cpus }
     {
         law_turns::turns_keep_what_they_find();
         law_turns::running_revokes_are_their_runners();
@@ -167,19 +158,12 @@ impl Parts {
     pub(crate) fn tick_on(&mut self, cpu: u32) -> Turn
         requires none_due { due_on (state_of self.old).times cpu ≡ None }
         requires none_chosen { None ≡ option_map chosen_of (choice (state_of self.old) cpu) }
-        requires counted { IsCounted (state_of self.old) }
-        requires queued { AreQueued (state_of self.old) self.old.queues.all }
-        requires running { AreRunning (state_of self.old) self.old.revokes }
+        requires tables { AreInStep self.old }
         requires turns { self.old.turns < 2 ^ 31 }
         requires cpu { cpu < self.old.cpus }
-        ensures answer { result ≡ answer_of (turn (state_of self.old) cpu) }
-        ensures state { state_of self.new ≡ after (state_of self.old) cpu }
-        ensures counted { IsCounted (state_of self.new) }
-        ensures queued { AreQueued (state_of self.new) self.new.queues.all }
-        ensures running { AreRunning (state_of self.new) self.new.revokes }
+        ensures taken { IsTurnTaken {E = Unit {0}} (view_of self.old) (view_of self.new) cpu (Ok result) }
+        ensures tables { AreInStep self.new }
         ensures log { self.new.reach.room ≡ self.old.reach.room }
-        ensures turns { self.new.turns ≡ self.old.turns + turns_taken result }
-        ensures cpus { self.new.cpus ≡ self.old.cpus }
     {
         law_turns::turns_keep_what_they_find();
         if self.times.next(cpu).is_none() {

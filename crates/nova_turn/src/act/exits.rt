@@ -16,7 +16,7 @@ use nova_model::Deed;
 use nova_range::Mtd;
 
 impl Parts {
-    /// Its exit is sent: the handler finds the exit's message, and begins.
+    /// Sends the exit of `ec`: the handler finds the exit's message, and begins.
     pub(crate) fn send_exit(&mut self, ec: u32, handler: u32, ip: u32, identifier: u32, mtd: Mtd)
         requires there { IsSome (context_at (state_of self.old) ec) }
         requires admitted { exit_admitted (state_of self.old).contexts ec handler ≡ ExitAdmit.Sends }
@@ -39,7 +39,7 @@ impl Parts {
         self.set_message(handler, &to);
     }
 
-    /// Its handler is dead: its call ends, or it ends by its exit.
+    /// Aborts the wait of `ec` for `handler`, which is dead: its call ends, or it ends by its exit.
     pub(crate) fn abort(&mut self, ec: u32, handler: u32, mark: Mark)
         requires { IsSome (context_at (state_of self.old) ec) }
         ensures aborted { state_of self.new ≡ performed (state_of self.old) ec (Deed.Aborts handler mark) }

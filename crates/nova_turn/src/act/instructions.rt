@@ -19,7 +19,7 @@ use rv_core::Regs;
 use rv_core::outcome::Outcome;
 
 impl Parts {
-    /// The address space of an execution context is the one that instructions reach.
+    /// Enters the address space of `ec`: instructions reach it from now on.
     pub fn enter(&mut self, ec: u32)
         requires there { IsSome (context_at (state_of self.old) ec) }
         ensures entered { IsEntered self.new ec }
@@ -35,8 +35,8 @@ impl Parts {
         self.reach.enter(ec, pd, is_thread);
     }
 
-    /// One instruction of an execution context whose address space was entered, on registers that lie beside the table: its deed is
-    /// done where these are put in, or it raises and nothing has changed.
+    /// Executes one instruction of `ec`, whose address space was entered, on `regs`, which lie beside the table. Its deed is done where these are put
+    /// in, or it raises and nothing has changed.
     #[inline(always)]
     pub fn execute_beside(&mut self, ec: u32, regs: &mut Regs) -> Outcome
         requires there { IsSome (context_at (state_of self.old) ec) }
@@ -55,7 +55,7 @@ impl Parts {
         self.reach.step(regs)
     }
 
-    /// For whom a store of an execution context is counted, of those for whom it may be.
+    /// The virtual CPU for which a store of `ec` is counted, of `guests`, for which it may be.
     fn seer_of(&self, ec: u32, guests: Numbers) -> Seer
         requires these { AreStirred (state_of self.now) (is_stirring (state_of self.now) self.now.reach.written ec Steps) guests }
         ensures { (frame : ℕ) → self.now.reach.written ≡ Some frame → IsSeer (state_of self.now) ec frame result }
@@ -73,8 +73,8 @@ impl Parts {
         }
     }
 
-    /// Counts a store to a frame of which it isn't known for whom it is counted. Where that is nobody, or one alone, it is known from now
-    /// on. Few stores are to such a frame, so that this stays out of the code of each.
+    /// Counts a store of `ec` to `frame`, of which it isn't known for which virtual CPU it is counted. Where that is none, or one alone, it is known
+    /// from now on. Few stores are to such a frame, so that this stays out of the code of each.
     #[inline(never)]
     fn note_anew(&mut self, ec: u32, frame: u32, seers: &mut Seers)
         requires counted { HasCounts (state_of self.old) }
@@ -90,7 +90,7 @@ impl Parts {
         self.stir_these(ec, Deed::Steps, guests);
     }
 
-    /// Counts the store of an instruction to a frame for each other virtual CPU that could see it.
+    /// Counts the store of an instruction to `frame` for each other virtual CPU that could see it.
     fn note_in(&mut self, ec: u32, frame: u32, seers: &mut Seers)
         requires counted { HasCounts (state_of self.old) }
         requires few { (g : ℕ) → IfSome (entry (slice_get (state_of self.old).stirs.guests g)) (λ n. n < 2 ^ 64 - 1) }
@@ -107,7 +107,7 @@ impl Parts {
         }
     }
 
-    /// Counts the store of an instruction, where there was one, for each other virtual CPU that could see it.
+    /// Counts the store of an instruction of `ec`, where there was one, for each other virtual CPU that could see it.
     fn note_written(&mut self, ec: u32, seers: &mut Seers)
         requires counted { HasCounts (state_of self.old) }
         requires few { (g : ℕ) → IfSome (entry (slice_get (state_of self.old).stirs.guests g)) (λ n. n < 2 ^ 64 - 1) }
@@ -121,8 +121,8 @@ impl Parts {
         }
     }
 
-    /// Counts the store of an instruction for each other virtual CPU that could see it; then nothing is stored again. Most instructions
-    /// store nothing, so that this stays out of their code.
+    /// Counts the store of an instruction of `ec` for each other virtual CPU that could see it; then nothing is stored again. Most instructions store
+    /// nothing, so that this stays out of their code.
     #[inline(never)]
     fn note_store(&mut self, ec: u32, seers: &mut Seers)
         requires entered { IsEntered self.old ec }
@@ -142,8 +142,8 @@ impl Parts {
         self.reach.forget_store();
     }
 
-    /// One instruction as by `execute_beside`, where nothing is stored yet. Where it goes on, its store is counted for each other virtual CPU that could
-    /// see it, and then nothing is stored again.
+    /// Executes one instruction of `ec` as by `execute_beside`, where nothing is stored yet. Where it goes on, its store is counted for each other
+    /// virtual CPU that could see it, and then nothing is stored again.
     #[inline(always)]
     pub fn step_beside(&mut self, ec: u32, regs: &mut Regs, seers: &mut Seers) -> Outcome
         requires there { IsSome (context_at (state_of self.old) ec) }

@@ -16,7 +16,7 @@ use nova_model::{Deed, Derivation, ItemWords, Sequel, State, Transfer};
 use nova_range::Status;
 
 impl Parts {
-    /// How far an execution context is with its items changes.
+    /// Sets how far the execution context `ec` is with its items to `transfer`.
     fn set_transfer(&mut self, ec: u32, transfer: Transfer)
         requires { ec < length (state_of self.old).transfers }
         ensures transfer { state_of self.new ≡ with_transfer (state_of self.old) ec transfer }
@@ -25,7 +25,7 @@ impl Parts {
         self.transfers[ec as usize] = Some(transfer);
     }
 
-    /// A child is added, in the room that was made for it, and the item goes on at the cursor.
+    /// Adds `child`, in the room that was made for it, and lets the item of `ec` go on at `cursor`.
     pub(crate) fn give(&mut self, ec: u32, child: &Derivation, cursor: u32)
         requires there { IsSome (context_at (state_of self.old) ec) }
         requires counted { IsCounted (state_of self.old) }
@@ -40,7 +40,7 @@ impl Parts {
         self.set_transfer(ec, gave(transfer, cursor));
     }
 
-    /// A part is skipped, and the item goes on at the cursor.
+    /// Skips a part, and lets the item of `ec` go on at `cursor`.
     pub(crate) fn skip(&mut self, ec: u32, cursor: u32)
         requires there { IsSome (context_at (state_of self.old) ec) }
         requires tables { AreTables (state_of self.old) }
@@ -51,7 +51,7 @@ impl Parts {
         self.set_transfer(ec, Transfer { cursor, ..transfer });
     }
 
-    /// The words of an item that ended are written where they are to be found.
+    /// Writes `words`, those of item `item`, which ended, where they are to be found.
     fn tell(&mut self, item: u32, words: Option<ItemWords>)
         requires item { item < 62 }
         requires there { IsToldThere (state_of self.old) words }
@@ -66,7 +66,7 @@ impl Parts {
         }
     }
 
-    /// What follows an item that ended.
+    /// Does what follows item `item` of `ec`, which ended, as `after` says.
     fn follow(&mut self, ec: u32, item: u32, after: Sequel)
         requires there { IsSome (context_at (state_of self.old) ec) }
         requires sequel { IsSequel (state_of self.old) ec item after }
@@ -81,7 +81,7 @@ impl Parts {
         }
     }
 
-    /// An item ended: its words are written, and then the next item follows, or what ends it all.
+    /// Ends item `item` of `ec`: its words are written, and then the next item follows, or what ends it all.
     pub(crate) fn finish(&mut self, ec: u32, item: u32, words: Option<ItemWords>, after: Sequel)
         requires there { IsSome (context_at (state_of self.old) ec) }
         requires item { item < 62 }

@@ -9,7 +9,7 @@ use nova_choice::{mark_all, mark_one};
 use nova_ec::Waiters;
 
 impl Parts {
-    /// Marks all scheduling contexts of the processor of an execution context anew.
+    /// Marks all scheduling contexts of the processor of the execution context `moved` anew.
     fn refresh_all(&mut self, moved: u32)
         requires { AreQueuedBut (cpu_in (state_of self.old).contexts moved) (state_of self.old) self.old.queues.all }
         ensures queued { AreQueued (state_of self.new) self.new.queues.all }
@@ -24,8 +24,7 @@ impl Parts {
         mark_all(&mut self.queues, self.objects.table(), &self.contexts, cpu);
     }
 
-    /// Marks the scheduling context of an execution context anew, where it has one; or all, where it may have
-    /// several.
+    /// Marks the scheduling context of the execution context `moved` anew, where it has one; or all, where it may have several.
     fn refresh_own(&mut self, moved: u32, at: u32)
         requires { AreQueuedBy moved at (state_of self.old) self.old.queues.all }
         ensures queued { AreQueuedBeyond moved at (state_of self.new) self.new.queues.all }
@@ -45,9 +44,8 @@ impl Parts {
         }
     }
 
-    /// An execution context has moved: scheduling contexts are marked anew whose turns that may have led elsewhere, which
-    /// are its own, and those of whoever waits for it, one after another; or all of its processor, where several may wait
-    /// for one.
+    /// Marks anew the scheduling contexts whose turns the move of `moved` may have led elsewhere: its own, and those of the context that waits for
+    /// it, one after another; or all of its processor, where several may wait for one.
     fn refresh_after(&mut self, moved: u32)
         requires { AreQueuedBy moved moved (state_of self.old) self.old.queues.all }
         ensures queued { AreQueued (state_of self.new) self.new.queues.all }
@@ -70,7 +68,7 @@ impl Parts {
         self.refresh_all(moved);
     }
 
-    /// Where an execution context has moved, scheduling contexts are marked anew whose turns that may have led elsewhere.
+    /// Marks anew the scheduling contexts whose turns the move of `moved`, if any, may have led elsewhere.
     #[inline(always)]
     pub(crate) fn refresh(&mut self, moved: Option<u32>)
         requires { AreQueuedAfter moved (state_of self.old) self.old.queues.all }

@@ -5,7 +5,7 @@ ghost use Rattle.nova_turn.specs.StoresSeen.{AreSeersOf, IsSeer};
 /// How many frames are remembered.
 const PLACES: usize = 4;
 
-/// The virtual CPU for which a store to a frame is counted: nobody, one alone, or it isn't known.
+/// The virtual CPU for which a store to a frame is counted: none, one alone, or it isn't known.
 #[derive(Clone, Copy)]
 pub enum Seer {
     Unknown,
@@ -13,21 +13,21 @@ pub enum Seer {
     Only(u32),
 }
 
-/// A frame, and for whom a store to it is counted.
+/// A frame, and the virtual CPU for which a store to it is counted.
 #[derive(Clone, Copy)]
 pub struct Seen {
     pub frame: u32,
     pub seer: Seer,
 }
 
-/// For whom stores of one execution context to some frames are counted, while delegations and objects stay.
+/// The virtual CPUs for which stores of one execution context to some frames are counted, while delegations and objects stay.
 #[derive(Clone, Copy)]
 pub struct Seers {
     places: [Seen; PLACES],
 }
 
 impl Seers {
-    /// Nothing is known.
+    /// Seers of which nothing is known.
     pub fn none() -> Seers
         ensures { (k : KernelState) (ec : ℕ) → AreSeersOf k ec result }
     {
@@ -39,7 +39,7 @@ impl Seers {
         }
     }
 
-    /// For whom a store to a frame is counted, as far as it is known.
+    /// The virtual CPU for which a store to `frame` is counted, as far as it is known.
     #[inline(always)]
     pub(crate) fn of(&self, frame: u32) -> Seer
         ensures { (k : KernelState) (ec : ℕ) → AreSeersOf k ec self.now → IsSeer k ec frame result }
@@ -52,7 +52,7 @@ impl Seers {
         }
     }
 
-    /// From now on it is known for whom a store to a frame is counted.
+    /// Notes in `seer` for which virtual CPU a store to `frame` is counted.
     pub(crate) fn learn(&mut self, frame: u32, seer: Seer)
         ensures { (k : KernelState) (ec : ℕ) → AreSeersOf k ec self.old → IsSeer k ec frame seer → AreSeersOf k ec self.new }
     {

@@ -14,7 +14,7 @@ use nova_model::{Deadline, Deed};
 use nova_range::Status;
 
 impl Parts {
-    /// Who waited at a semaphore goes on with a status, and has no deadline.
+    /// Ends the wait of `ec` at a semaphore: it goes on with `status`, and has no deadline.
     pub(crate) fn end_wait(&mut self, ec: u32, status: Status)
         requires there { IsSome (context_at (state_of self.old) ec) }
         ensures ended { state_of self.new ≡ ended_wait (state_of self.old) ec status }
@@ -24,7 +24,7 @@ impl Parts {
         self.times.clear_deadline(ec);
     }
 
-    /// Who is woken at a semaphore, if anyone is, goes on.
+    /// Lets `whom` go on, if an execution context is woken at a semaphore.
     pub(crate) fn wake(&mut self, whom: Option<u32>)
         requires there { IfSome whom (λ ec. IsSome (context_at (state_of self.old) ec)) }
         ensures woken { state_of self.new ≡ woken_in (state_of self.old) whom }
@@ -35,7 +35,7 @@ impl Parts {
         }
     }
 
-    /// It ups a semaphore, and whom that wakes goes on too.
+    /// `ec` ups the semaphore `sm`, and `whom`, if that wakes any, goes on too.
     pub(crate) fn raise_counter(&mut self, ec: u32, sm: u32, whom: Option<u32>)
         requires there { IsSome (context_at (state_of self.old) ec) }
         requires counted { IsCounted (state_of self.old) }
@@ -48,7 +48,7 @@ impl Parts {
         self.wake(whom);
     }
 
-    /// It downs a semaphore whose counter is above 0, and goes on.
+    /// `ec` downs the semaphore `sm`, whose counter is above 0, and goes on.
     pub(crate) fn lower_counter(&mut self, ec: u32, sm: u32)
         requires there { IsSome (context_at (state_of self.old) ec) }
         requires counted { IsCounted (state_of self.old) }
@@ -62,7 +62,7 @@ impl Parts {
         self.contexts.answer(ec, Status::Success, None);
     }
 
-    /// It waits at a semaphore whose counter is 0, to a deadline or without one.
+    /// `ec` waits at the semaphore `sm`, whose counter is 0, to the deadline `until` or without one.
     pub(crate) fn block(&mut self, ec: u32, sm: u32, until: Option<Deadline>)
         requires there { IsSome (context_at (state_of self.old) ec) }
         requires counted { IsCounted (state_of self.old) }

@@ -11,7 +11,7 @@ use nova_deeds::inputs::{is_memory_of, stirs_itself};
 use nova_model::{Deed, Mark, Sequel};
 
 impl Parts {
-    /// Whether memory of a protection domain leads to the RAM frame that was stored to.
+    /// Whether memory of the protection domain `pd` leads to the RAM frame that was stored to.
     fn is_seen(&self, pd: u32) -> bool
         ensures { result ≡ is_seen (state_of self.now) pd self.now.reach.written }
     {
@@ -21,7 +21,7 @@ impl Parts {
         }
     }
 
-    /// Whether a deed of an execution context is an input from outside for a virtual CPU.
+    /// Whether `deed` of the execution context `ec` is an input from outside for the virtual CPU `guest`.
     pub(crate) fn is_stirring(&self, ec: u32, deed: Deed, guest: u32) -> bool
         ensures { result ≡ is_stirring (state_of self.now) self.now.reach.written ec deed guest }
     {
@@ -46,7 +46,7 @@ impl Parts {
         }
     }
 
-    /// The virtual CPUs of these protection domains, but for this one.
+    /// The virtual CPUs of the protection domains `domains`, but for `ec`.
     #[tactic(auto, using(crate::proofs::Homes::none_yet, crate::proofs::Homes::one_more, crate::proofs::Homes::all_others))]
     fn others_of(&self, ec: u32, domains: &[u32]) -> Numbers
         ensures { AreOthersOf (state_of self.now).objects ec domains.now result }
@@ -58,8 +58,7 @@ impl Parts {
         others
     }
 
-    /// The virtual CPUs that see what this execution context stored, but for itself. Who sees the frame is looked up
-    /// where that is not remembered.
+    /// The virtual CPUs that see what `ec` stored, but for itself. The domains that see the frame are looked up where they are not remembered.
     #[tactic(auto, using(crate::proofs::Whom::seers_none, crate::proofs::Whom::seers_beyond, crate::proofs::Whom::seers_of, crate::proofs::Whom::seers_any))]
     fn seers(&mut self, ec: u32) -> Numbers
         ensures seers { AreSeers (state_of self.old) ec self.old.reach.written result }
@@ -78,7 +77,7 @@ impl Parts {
         }
     }
 
-    /// The virtual CPUs for which a deed of an execution context may be an input from outside.
+    /// The virtual CPUs for which `deed` of the execution context `ec` may be an input from outside.
     #[tactic(auto, using(crate::proofs::Whom::steps_stir, crate::proofs::Whom::gives_stir, crate::proofs::Whom::removes_stir, crate::proofs::Whom::named_stir))]
     pub(crate) fn whom(&mut self, ec: u32, deed: Deed) -> Numbers
         ensures stirred { AreStirred (state_of self.old) (is_stirring (state_of self.old) self.old.reach.written ec deed) result }
@@ -99,7 +98,7 @@ impl Parts {
         }
     }
 
-    /// Counts a deed of an execution context for each virtual CPU for which it is an input from outside.
+    /// Counts `deed` of the execution context `ec` for each virtual CPU for which it is an input from outside.
     fn stir_each(&mut self, ec: u32, deed: Deed)
         requires { (g : ℕ) → IfSome (entry (slice_get (state_of self.old).stirs.guests g)) (λ n. n < 2 ^ 64 - 1) }
         ensures counts { self.new.guests.counts ≡ risen_from (is_stirring (state_of self.old) self.old.reach.written ec deed) 0 self.old.guests.counts }
@@ -113,8 +112,7 @@ impl Parts {
         }
     }
 
-    /// Counts a deed of an execution context for those of some virtual CPUs for which it is an input from outside; it
-    /// is none for others.
+    /// Counts `deed` of the execution context `ec` for those of some virtual CPUs for which it is an input from outside; it is none for others.
     pub(crate) fn stir_these(&mut self, ec: u32, deed: Deed, guests: Numbers)
         requires counted { HasCounts (state_of self.old) }
         requires these { AreStirred (state_of self.old) (is_stirring (state_of self.old) self.old.reach.written ec deed) guests }
@@ -133,8 +131,8 @@ impl Parts {
         }
     }
 
-    /// Counts a deed of an execution context for each virtual CPU for which it is an input from outside. Where there is none, turns pass
-    /// this by.
+    /// Counts `deed` of the execution context `ec` for each virtual CPU for which it is an input from outside. Where there is none, turns pass this
+    /// by.
     #[inline(never)]
     pub(crate) fn stir_guests(&mut self, ec: u32, deed: Deed)
         requires counted { HasCounts (state_of self.old) }
@@ -146,7 +144,7 @@ impl Parts {
         self.stir_these(ec, deed, guests);
     }
 
-    /// Counts what a deed that an execution context did is for virtual CPUs.
+    /// Counts what `deed`, which the execution context `ec` did, is for virtual CPUs.
     #[inline(always)]
     pub(crate) fn stir(&mut self, ec: u32, deed: &Deed)
         requires counted { HasCounts (state_of self.old) }

@@ -1,23 +1,23 @@
-ghost use Rattle.std.specs.Prelude.{◌≡◌, ◌+◌, ◌-◌, ◌^◌, ◌<◌, ◌≤◌, ℕ, true, false, slice_get, Option, None, Some, IsSome, IfSome, IfOk, OnOk, OnErr, option_map};
-ghost use Rattle.nova_model.specs.Deeds.{deed, done, is_making};
+ghost use Rattle.std.specs.Prelude.{◌≡◌, ◌+◌, ◌-◌, ◌^◌, ◌<◌, ◌≤◌, ℕ, true, slice_get, Option, None, Some, IsSome, IfSome, OnOk, OnErr, option_map};
+ghost use Rattle.nova_model.specs.Deeds as deeds;
 ghost use Rattle.nova_model.specs.Choice.{choice};
 ghost use Rattle.nova_model.specs.Edges.{acts};
 ghost use Rattle.nova_model.specs.State.{context_at, entry};
 ghost use Rattle.nova_model.specs.Times.{due_on};
-ghost use Rattle.nova_model.specs.Turn.{state_after, answer_of, turn};
-ghost use Rattle.nova_turn.specs.Views.{IsMaking, turns_taken};
+ghost use Rattle.nova_turn.specs.Views.{IsTurnTaken};
 ghost use Rattle.nova_sched.specs.Queues.{queued_at};
 ghost use Rattle.nova_choice.specs.Choices.{chosen_of};
 ghost use Rattle.nova_turn.specs.Homes.{HasCounts};
 ghost use Rattle.nova_turn.specs.Known.{AreKnown};
-ghost use Rattle.nova_turn.specs.Going.{HasRaised, KeepsRest, MayTurn, Stays, WentOn};
-ghost use Rattle.nova_turn.specs.Parts.{state_of};
+ghost use Rattle.nova_turn.specs.Going.{AreInStep, HasRaised, KeepsRest, MayTurn, Stays, WentOn};
+ghost use Rattle.nova_turn.specs.Parts.{state_of, view_of};
 ghost use Rattle.nova_deeds.specs.Counted.{IsCounted, KeepsCounts};
-ghost use Rattle.nova_deeds.specs.Acts.{DeedFits, is_step};
+ghost use Rattle.nova_deeds.specs.Acts.{IsToBeDone};
 ghost use Rattle.nova_turn.specs.Revoking.{AreRunning};
 ghost use Rattle.nova_choice.specs.Schedules.{AreQueued, schedule_after};
 ghost use Rattle.nova_deeds.specs.Stirs.{is_stirring, risen_in};
 
+use crate::decide::calls::{SentCall, SentReply};
 use crate::decide::deciding::Raised;
 use crate::parts::Parts;
 use nova_choice::{Chosen, moved_by};
@@ -34,53 +34,51 @@ enum Progress {
 }
 
 impl Parts {
-    /// The execution context does its deed, and the marks of the queues stay as they were. No instruction went on: the one that is
-    /// next raised this, or none is next. Memory can run out only where the deed makes an object or a derivation.
-    fn carry_out(&mut self, ec: u32, raised: Option<Raised>) -> Result<Deed, AllocError>
+    /// The execution context does `deed`, its own, and the marks of the queues stay as they were. No instruction went on. Memory can run out only
+    /// where the deed makes an object or a derivation.
+    #[inline(always)]
+    fn carry_out(&mut self, ec: u32, deed: Deed) -> Result<(), AllocError>
         requires there { IsSome (context_at (state_of self.old) ec) }
         requires acts { acts (state_of self.old).contexts ec ≡ true }
         requires ready { MayTurn self.old }
-        requires raised { HasRaised (state_of self.old) ec raised }
-        ensures deed { IfOk result (λ d. d ≡ deed (state_of self.old) ec) }
-        ensures fits { IfOk result (DeedFits (state_of self.old) ec) }
-        ensures done { IfOk result (λ d. state_of self.new ≡ done (state_of self.old) ec d) }
-        ensures queues { IfOk result (λ d. self.new.queues.all ≡ schedule_after (state_of self.old) ec self.old.queues.all d) }
+        requires own { deed ≡ deeds.deed (state_of self.old) ec }
+        requires fits { IsToBeDone (state_of self.old) ec deed }
+        ensures done { OnOk result (state_of self.new ≡ deeds.done (state_of self.old) ec deed) }
+        ensures queues { OnOk result (self.new.queues.all ≡ schedule_after (state_of self.old) ec self.old.queues.all deed) }
         ensures refused { OnErr result (self.new.queues.all ≡ self.old.queues.all) }
-        ensures running { IfOk result (λ d. AreRunning (state_of self.new) self.new.revokes) }
+        ensures running { OnOk result (AreRunning (state_of self.new) self.new.revokes) }
         ensures stays { OnErr result (AreRunning (state_of self.old) self.new.revokes) }
         ensures memory { OnErr result ((state_of self.new ≡ state_of self.old) × (self.new.reach.room ≡ self.old.reach.room)) }
-        ensures making { OnErr result (is_making (deed (state_of self.old) ec) ≡ true) }
-        ensures no_step { IfOk result (λ d. is_step d ≡ false) }
+        ensures making { OnErr result (deeds.is_making (deeds.deed (state_of self.old) ec) ≡ true) }
         ensures log { self.old.reach.room ≤ self.new.reach.room + 1 }
     {
         law_turns::running_revokes_are_their_runners();
-        let deed = self.decide(ec, raised);
         let domain = self.pd(ec);
         self.make_room(domain, deed)?;
         self.perform(ec, deed);
-        Ok(deed)
+        Ok(())
     }
 
-    /// The execution context does its deed, and where somebody moves, scheduling contexts are marked anew. It
+    /// The execution context does `deed`, its own, and where somebody moves, scheduling contexts are marked anew. It
     /// refuses as `carry_out`.
-    fn act(&mut self, ec: u32, raised: Option<Raised>) -> Result<Deed, AllocError>
+    #[inline(always)]
+    fn act(&mut self, ec: u32, deed: Deed) -> Result<(), AllocError>
         requires there { IsSome (context_at (state_of self.old) ec) }
         requires acts { acts (state_of self.old).contexts ec ≡ true }
         requires ready { MayTurn self.old }
-        requires raised { HasRaised (state_of self.old) ec raised }
-        ensures deed { IfOk result (λ d. d ≡ deed (state_of self.old) ec) }
-        ensures done { IfOk result (λ d. state_of self.new ≡ done (state_of self.old) ec d) }
+        requires own { deed ≡ deeds.deed (state_of self.old) ec }
+        requires fits { IsToBeDone (state_of self.old) ec deed }
+        ensures done { OnOk result (state_of self.new ≡ deeds.done (state_of self.old) ec deed) }
         ensures queued { AreQueued (state_of self.new) self.new.queues.all }
         ensures running { AreRunning (state_of self.new) self.new.revokes }
         ensures memory { OnErr result ((state_of self.new ≡ state_of self.old) × (self.new.reach.room ≡ self.old.reach.room)) }
-        ensures making { OnErr result (is_making (deed (state_of self.old) ec) ≡ true) }
+        ensures making { OnErr result (deeds.is_making (deeds.deed (state_of self.old) ec) ≡ true) }
         ensures kept { OnOk result (KeepsCounts (state_of self.old) (state_of self.new)) }
-        ensures no_step { IfOk result (λ d. is_step d ≡ false) }
         ensures log { self.old.reach.room ≤ self.new.reach.room + 1 }
     {
-        let deed = self.carry_out(ec, raised)?;
+        self.carry_out(ec, deed)?;
         self.refresh(moved_by(ec, deed));
-        Ok(deed)
+        Ok(())
     }
 
     /// Counts what an instruction that went on is for virtual CPUs: it may be an input for one only where it stored to a frame.
@@ -125,11 +123,54 @@ impl Parts {
         }
     }
 
+    /// A turn of which the scheduling context and the execution context are chosen, by the deed of the latter. It refuses as `turn`.
+    #[inline(always)]
+    #[tactic(auto, unfolding(nova_model::specs::Turn::turn))]
+    fn conclude(&mut self, cpu: u32, chosen: Chosen, deed: Deed) -> Result<Turn, AllocError>
+        requires ready { MayTurn self.old }
+        requires cpu { cpu < self.old.cpus }
+        requires none_due { due_on (state_of self.old).times cpu ≡ None }
+        requires told { Some chosen ≡ option_map chosen_of (choice (state_of self.old) cpu) }
+        requires there { IsSome (context_at (state_of self.old) chosen.actor) }
+        requires pays { IsSome (queued_at self.old.queues.all chosen.sc) }
+        requires own { deed ≡ deeds.deed (state_of self.old) chosen.actor }
+        requires fits { IsToBeDone (state_of self.old) chosen.actor deed }
+        ensures taken { IsTurnTaken (view_of self.old) (view_of self.new) cpu result }
+        ensures tables { AreInStep self.new }
+    {
+        self.act(chosen.actor, deed)?;
+        self.stir(chosen.actor, &deed);
+        self.charge(cpu, chosen.sc);
+        law_turns::turns_keep_what_they_find();
+        Ok(Turn::Stepped(event(cpu, chosen, sign_of(deed))))
+    }
+
+    /// The same by any deed, which is decided: the instruction that is next raised this, or none is next.
+    #[inline(never)]
+    fn settle_any(
+        &mut self,
+        cpu: u32,
+        chosen: Chosen,
+        raised: Option<Raised>,
+    ) -> Result<Turn, AllocError>
+        requires ready { MayTurn self.old }
+        requires cpu { cpu < self.old.cpus }
+        requires none_due { due_on (state_of self.old).times cpu ≡ None }
+        requires told { Some chosen ≡ option_map chosen_of (choice (state_of self.old) cpu) }
+        requires there { IsSome (context_at (state_of self.old) chosen.actor) }
+        requires pays { IsSome (queued_at self.old.queues.all chosen.sc) }
+        requires raised { HasRaised (state_of self.old) chosen.actor raised }
+        ensures taken { IsTurnTaken (view_of self.old) (view_of self.new) cpu result }
+        ensures tables { AreInStep self.new }
+    {
+        let deed = self.decide(chosen.actor, raised);
+        self.conclude(cpu, chosen, deed)
+    }
+
     /// A turn of which the scheduling context and the execution context are chosen, and no instruction went on: the one that is next
     /// raised this, or none is next. It refuses as `turn`. Most turns are an instruction that goes on, so that all else stays out of
-    /// their code.
+    /// their code; and calls and replies have code of their own, in which no other deed is asked for.
     #[inline(never)]
-    #[tactic(auto, unfolding(nova_model::specs::Turn::turn))]
     pub fn settle(
         &mut self,
         cpu: u32,
@@ -143,23 +184,48 @@ impl Parts {
         requires there { IsSome (context_at (state_of self.old) chosen.actor) }
         requires pays { IsSome (queued_at self.old.queues.all chosen.sc) }
         requires raised { HasRaised (state_of self.old) chosen.actor raised }
-        ensures answer { IfOk result (λ t. t ≡ answer_of (turn (state_of self.old) cpu)) }
-        ensures state { OnOk result (state_of self.new ≡ state_after (state_of self.old) (turn (state_of self.old) cpu)) }
-        ensures memory { OnErr result ((state_of self.new ≡ state_of self.old) × (self.new.reach.room ≡ self.old.reach.room)) }
-        ensures making { OnErr result (IsMaking (state_of self.old) cpu) }
-        ensures counted { IsCounted (state_of self.new) }
-        ensures queued { AreQueued (state_of self.new) self.new.queues.all }
-        ensures running { AreRunning (state_of self.new) self.new.revokes }
-        ensures log { self.old.reach.room ≤ self.new.reach.room + 1 }
-        ensures idle { IfOk result (λ t. t ≡ Turn.Idle → self.new.reach.room ≡ self.old.reach.room) }
-        ensures turns { IfOk result (λ t. self.new.turns ≡ self.old.turns + turns_taken t) }
-        ensures cpus { self.new.cpus ≡ self.old.cpus }
+        ensures taken { IsTurnTaken (view_of self.old) (view_of self.new) cpu result }
+        ensures tables { AreInStep self.new }
     {
-        let deed = self.act(chosen.actor, raised)?;
-        self.stir(chosen.actor, &deed);
-        self.charge(cpu, chosen.sc);
-        law_turns::turns_keep_what_they_find();
-        Ok(Turn::Stepped(event(cpu, chosen, sign_of(deed))))
+        if let Some(raised) = raised
+            && self.is_hypercall(chosen.actor, raised)
+        {
+            if let Some(call) = self.sent_call(chosen.actor) {
+                let SentCall {
+                    handler,
+                    ip,
+                    identifier,
+                    items,
+                } = call;
+                return self.conclude(
+                    cpu,
+                    chosen,
+                    Deed::Calls {
+                        handler,
+                        ip,
+                        identifier,
+                        items,
+                    },
+                );
+            }
+            if let Some(reply) = self.sent_reply(chosen.actor) {
+                let SentReply {
+                    caller,
+                    mark,
+                    items,
+                } = reply;
+                return self.conclude(
+                    cpu,
+                    chosen,
+                    Deed::Replies {
+                        caller,
+                        mark,
+                        items,
+                    },
+                );
+            }
+        }
+        self.settle_any(cpu, chosen, raised)
     }
 
     /// One turn of a processor: the execution context of the chosen scheduling context does its deed,
@@ -167,24 +233,11 @@ impl Parts {
     /// a derivation.
     #[tactic(auto, unfolding(nova_model::specs::Turn::turn))]
     pub fn turn(&mut self, cpu: u32, known: &[Option<Chosen>]) -> Result<Turn, AllocError>
-        requires counted { IsCounted (state_of self.old) }
-        requires queued { AreQueued (state_of self.old) self.old.queues.all }
-        requires running { AreRunning (state_of self.old) self.old.revokes }
-        requires turns { self.old.turns < 2 ^ 31 }
+        requires ready { MayTurn self.old }
         requires cpu { cpu < self.old.cpus }
-        requires log { 0 < self.old.reach.room }
         requires known { AreKnown (state_of self.old) known.now }
-        ensures answer { IfOk result (λ t. t ≡ answer_of (turn (state_of self.old) cpu)) }
-        ensures state { OnOk result (state_of self.new ≡ state_after (state_of self.old) (turn (state_of self.old) cpu)) }
-        ensures memory { OnErr result ((state_of self.new ≡ state_of self.old) × (self.new.reach.room ≡ self.old.reach.room)) }
-        ensures making { OnErr result (IsMaking (state_of self.old) cpu) }
-        ensures counted { IsCounted (state_of self.new) }
-        ensures queued { AreQueued (state_of self.new) self.new.queues.all }
-        ensures running { AreRunning (state_of self.new) self.new.revokes }
-        ensures log { self.old.reach.room ≤ self.new.reach.room + 1 }
-        ensures idle { IfOk result (λ t. t ≡ Turn.Idle → self.new.reach.room ≡ self.old.reach.room) }
-        ensures turns { IfOk result (λ t. self.new.turns ≡ self.old.turns + turns_taken t) }
-        ensures cpus { self.new.cpus ≡ self.old.cpus }
+        ensures taken { IsTurnTaken (view_of self.old) (view_of self.new) cpu result }
+        ensures tables { AreInStep self.new }
     {
         if self.times.is_due(cpu) {
             return Ok(self.come_due(cpu));

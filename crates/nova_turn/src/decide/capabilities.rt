@@ -61,6 +61,7 @@ impl Parts {
 
     /// The number of the object that the capability at a selector leads to. `BadCap` where no
     /// capability is held there, its object isn't of this type, or the right is missing.
+    #[inline(always)]
     pub(crate) fn named(
         &self,
         pd: u32,

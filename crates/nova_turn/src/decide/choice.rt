@@ -11,8 +11,8 @@ use crate::parts::Parts;
 use nova_choice::{Chosen, actor_of};
 
 impl Parts {
-    /// The runnable scheduling context of the processor before which no other goes, and who acts. Where that
-    /// is known of the processor's last turn, nobody is chased.
+    /// The runnable scheduling context of the processor `cpu` before which no other goes, and the execution
+    /// context that acts. Where that is known of the processor's last turn, no chase is followed.
     pub fn choice(&self, cpu: u32, known: &[Option<Chosen>]) -> Option<Chosen>
         requires queued { AreQueued (state_of self.now) self.now.queues.all }
         requires known { AreKnown (state_of self.now) known.now }
@@ -30,8 +30,7 @@ impl Parts {
         Some(Chosen { sc, actor })
     }
 
-    /// The scheduling context that the processor's next turn is charged to, unless something is due there; none where none is
-    /// runnable.
+    /// The scheduling context that the next turn of the processor `cpu` is charged to, unless something is due there; none where none is runnable.
     #[tactic(auto, using(nova_choice::proofs::Nexts::choose_told))]
     pub fn choose(&self, cpu: u32) -> Option<u32>
         requires { AreQueued (state_of self.now) self.now.queues.all }
@@ -40,7 +39,7 @@ impl Parts {
         self.queues.choose(cpu)
     }
 
-    /// Whether a processor has no turn to take: nothing is runnable there, and nothing is to come.
+    /// Whether the processor `cpu` has no turn to take: nothing is runnable there, and nothing is to come.
     fn is_idle(&self, cpu: u32) -> bool
         requires { AreQueued (state_of self.now) self.now.queues.all }
         ensures { result ≡ is_idle (state_of self.now) cpu }

@@ -26,8 +26,15 @@ pub struct Raised {
 }
 
 impl Parts {
-    /// The deed of an instruction that raises: an ECALL of a thread is a hypercall, and any other is
-    /// an exit.
+    /// Whether an instruction of `ec` that raises `raised` is a hypercall: the ECALL of a thread.
+    #[inline(always)]
+    pub(crate) fn is_hypercall(&self, ec: u32, raised: Raised) -> bool
+        ensures { result ≡ ((raised.reason == environment_call) && is_thread (state_of self.now) ec) }
+    {
+        raised.reason == ENVIRONMENT_CALL && self.is_thread(ec)
+    }
+
+    /// The deed of an instruction of `ec` that raises `raised`: an ECALL of a thread is a hypercall, and any other is an exit.
     pub(crate) fn signal(&self, ec: u32, raised: Raised) -> Deed
         requires there { IsSome (context_at (state_of self.now) ec) }
         requires counted { IsCounted (state_of self.now) }
@@ -36,14 +43,14 @@ impl Parts {
         ensures fits { IsToBeDone (state_of self.now) ec result }
     {
         let Raised { reason, q0, q1 } = raised;
-        if reason == ENVIRONMENT_CALL && self.is_thread(ec) {
+        if self.is_hypercall(ec, raised) {
             self.hypercall(ec)
         } else {
             Deed::Raises { reason, q0, q1 }
         }
     }
 
-    /// Whether an instruction is next of an execution context: it is ready, and no recall is asked for.
+    /// Whether an instruction is next of the execution context `ec`: it is ready, and no recall is asked for.
     pub(crate) fn is_executing(&self, ec: u32) -> bool
         requires { IsSome (context_at (state_of self.now) ec) }
         ensures { result ≡ is_executing (context (state_of self.now) ec) }
@@ -52,8 +59,7 @@ impl Parts {
         matches!(context.state, State::Ready) && !context.recall
     }
 
-    /// The deed of an execution context of which no instruction is next. The next search of a revoke may be quicker; nothing else has
-    /// changed.
+    /// The deed of the execution context `ec`, of which no instruction is next. The next search of a revoke may be quicker; nothing else has changed.
     #[tactic(auto, unfolding(nova_model::specs::Deeds::deed))]
     pub(crate) fn decide_in_state(&mut self, ec: u32) -> Deed
         requires there { IsSome (context_at (state_of self.old) ec) }
@@ -89,8 +95,8 @@ impl Parts {
         }
     }
 
-    /// The deed of an execution context of which no instruction went on: the one that is next raised this, or none is next. What stays is as
-    /// by `decide_in_state`.
+    /// The deed of the execution context `ec`, of which no instruction went on: the next raised `raised`, or none is next. What stays is as by
+    /// `decide_in_state`.
     pub(crate) fn decide(&mut self, ec: u32, raised: Option<Raised>) -> Deed
         requires there { IsSome (context_at (state_of self.old) ec) }
         requires counted { IsCounted (state_of self.old) }

@@ -12,7 +12,7 @@ use nova_model::{Deed, Transfer};
 use nova_preview::next_deed;
 
 impl Parts {
-    /// How far an execution context is with the items that it gives.
+    /// How far the execution context `ec` is with the items that it gives.
     pub(crate) fn transfer(&self, ec: u32) -> Transfer
         ensures { result ≡ transfer (state_of self.now) ec }
     {
@@ -22,7 +22,7 @@ impl Parts {
         }
     }
 
-    /// The deed of an execution context that gives items: the next part of a delegation, or what ends an item.
+    /// The deed of the execution context `ec`, which gives items: the next part of a delegation, or what ends an item.
     pub(crate) fn deliver(&self, ec: u32) -> Deed
         requires there { IsSome (context_at (state_of self.now) ec) }
         requires counted { IsCounted (state_of self.now) }

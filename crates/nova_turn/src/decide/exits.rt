@@ -14,8 +14,7 @@ use nova_model::{Deed, ExitAdmit, Object, Rights};
 use nova_range::Status;
 
 impl Parts {
-    /// The selector of the portal for an execution context's exits of reason 0; those of the other reasons
-    /// follow.
+    /// The selector of the portal for exits of `ec` of reason 0; those of the other reasons follow.
     fn event_base(&self, ec: u32) -> u32
         ensures { result ≡ event_base (state_of self.now) ec }
     {
@@ -25,8 +24,8 @@ impl Parts {
         }
     }
 
-    /// The portal for an exit of an execution context: in its own protection domain, with the right to send
-    /// exits. `BadCap` where there is none.
+    /// The portal for an exit of the execution context `ec`: in its own protection domain, with the right to
+    /// send exits. `BadCap` where there is none.
     fn exit_portal(&self, ec: u32, reason: u32) -> Result<u32, Status>
         ensures { result ≡ exit_portal (state_of self.now) ec reason }
     {
@@ -34,8 +33,8 @@ impl Parts {
         self.named(self.pd(ec), ObjectType::Pt, Rights::EVENT, selector)
     }
 
-    /// The deed of an exit that was raised and is not sent. It is looked up; where no portal is found, or no
-    /// reply could come, who raised it dies, and where the handler is busy it waits.
+    /// The deed of `ec`, which raised the exit `raised`, not yet sent. It is looked up; where no portal is
+    /// found, or no reply could come, `ec` dies, and where the handler is busy it waits.
     pub(crate) fn exit(&self, ec: u32, raised: Raised) -> Deed
         requires there { IsSome (context_at (state_of self.now) ec) }
         requires raised { raised_exit (context (state_of self.now) ec).state ≡ Some (raised.reason, raised.q0, raised.q1) }
@@ -67,7 +66,7 @@ impl Parts {
         }
     }
 
-    /// The mark with which a handler keeps its caller.
+    /// The mark with which `handler` keeps its caller.
     pub(crate) fn mark_of(&self, handler: u32) -> Mark
         ensures { result ≡ mark_in (context (state_of self.now) handler).caller }
     {

@@ -1,7 +1,7 @@
 ghost use Rattle.std.specs.Prelude.{◌≡◌, ◌^◌, ◌<◌, ℕ, IfOk, IsSome};
 ghost use Rattle.nova_calls.specs.SoundCalls.{IsSoundCall};
-ghost use Rattle.nova_model.specs.Hypercalls.{maker, unless_busy, new_domain, create_pd, create_ec, is_scheduled, create_sc, create_pt, create_sm, looked_up, ticks_in, row, asked, hypercall};
-ghost use Rattle.nova_model.specs.State.{budget_at, context_at, context, pd_of};
+ghost use Rattle.nova_model.specs.Hypercalls.{maker, unless_busy, new_domain, create_pd, create_ec, is_scheduled, create_sc, create_pt, create_sm, looked_up, ticks_in, row, or_refuses, hypercall};
+ghost use Rattle.nova_model.specs.State.{KernelState, budget_at, context_at, context, pd_of};
 ghost use Rattle.nova_turn.specs.Parts.{state_of};
 ghost use Rattle.nova_deeds.specs.Counted.{IsCharged, IsCounted};
 ghost use Rattle.nova_deeds.specs.Acts.{IsToBeDone};
@@ -14,7 +14,6 @@ use bitflags::Flags;
 use nova_calls::{Call, numbers, read_call};
 use nova_model::{Deed, EcKind, NewObject, Object, Rights};
 use nova_range::{Range, Status, word_of};
-use rv_core::Regs;
 
 /// Where an object is to be made: the protection domain of the maker, the selector in it that the
 /// new capability takes, and the selector in it of the domain that the object is to lie in.
@@ -34,6 +33,21 @@ impl Site {
             target,
             pd_selector,
         }
+    }
+}
+
+/// A refusal of a hypercall is a deed too.
+#[inline(always)]
+fn or_refuses(number: u32, asked: Result<Deed, Status>) -> Deed
+    ensures deed { result ≡ or_refuses number asked }
+    ensures fits { (k : KernelState) (ec : ℕ) → IfOk asked (IsToBeDone k ec) → IsToBeDone k ec result }
+{
+    match asked {
+        Ok(deed) => deed,
+        Err(status) => Deed::Refuses {
+            call: number,
+            status,
+        },
     }
 }
 
@@ -247,8 +261,7 @@ impl Parts {
         }
     }
 
-    /// The rows of the table of hypercalls. Most that are asked are calls and replies, so that the table stays out of their code.
-    #[inline(never)]
+    /// The rows of the table of hypercalls.
     fn row(&self, ec: u32, domain: u32, call: Call) -> Result<Deed, Status>
         requires there { IsSome (context_at (state_of self.now) ec) }
         requires counted { IsCounted (state_of self.now) }
@@ -312,19 +325,17 @@ impl Parts {
         }
     }
 
-    /// What the hypercall of these registers asks for, in a protection domain: its row of the table.
-    fn asked(&self, ec: u32, domain: u32, regs: &Regs) -> Result<Deed, Status>
+    /// The deed of a hypercall by its row of the table. Most that are asked are calls and replies, so that the table stays out of their code.
+    #[inline(never)]
+    fn row_or_refusal(&self, ec: u32, domain: u32, call: Call, number: u32) -> Deed
         requires there { IsSome (context_at (state_of self.now) ec) }
         requires counted { IsCounted (state_of self.now) }
         requires running { AreRunning (state_of self.now) self.now.revokes }
-        ensures asked { result ≡ asked (state_of self.now) ec domain regs.now }
-        ensures fits { IfOk result (IsToBeDone (state_of self.now) ec) }
+        requires sound { IsSoundCall call }
+        ensures deed { result ≡ or_refuses number (row (state_of self.now) ec domain call) }
+        ensures fits { IsToBeDone (state_of self.now) ec result }
     {
-        match read_call(regs)? {
-            Call::Call { portal, flag } => self.call(ec, domain, portal, flag),
-            Call::Reply => self.reply(ec),
-            call => self.row(ec, domain, call),
-        }
+        or_refuses(number, self.row(ec, domain, call))
     }
 
     /// The deed of the hypercall that an execution context's registers ask for: a refusal is one too.
@@ -336,12 +347,15 @@ impl Parts {
         ensures fits { IsToBeDone (state_of self.now) ec result }
     {
         let regs = &self.contexts.context(ec).regs;
-        match self.asked(ec, self.pd(ec), regs) {
-            Ok(deed) => deed,
-            Err(status) => Deed::Refuses {
-                call: regs.get(17),
-                status,
-            },
+        let domain = self.pd(ec);
+        let number = regs.get(17);
+        match read_call(regs) {
+            Ok(Call::Call { portal, flag }) => {
+                or_refuses(number, self.call(ec, domain, portal, flag))
+            }
+            Ok(Call::Reply) => or_refuses(number, self.reply(ec)),
+            Ok(call) => self.row_or_refusal(ec, domain, call, number),
+            Err(status) => or_refuses(number, Err(status)),
         }
     }
 }

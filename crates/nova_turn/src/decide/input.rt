@@ -18,7 +18,7 @@ use rv_core::outcome::Outcome;
 use std::alloc::{AllocError, Global};
 
 impl Parts {
-    /// The deed of an execution context, which is decided and not done; an instruction is only looked at. What stays is as by
+    /// The deed of the execution context `ec`, which is decided and not done; an instruction is only looked at. What stays is as by
     /// `decide_in_state`.
     fn foresee(&mut self, ec: u32) -> Deed
         requires there { IsSome (context_at (state_of self.old) ec) }
@@ -39,8 +39,8 @@ impl Parts {
         self.decide_in_state(ec)
     }
 
-    /// What a deed of another execution context is for a virtual CPU. Memory can run out only where it
-    /// gives the virtual CPU's domain memory with bytes.
+    /// The input that `deed` of `ec`, another execution context, is for the virtual CPU `guest`. Memory can run
+    /// out only where it gives the virtual CPU's domain memory with bytes.
     fn others_input(
         &self,
         alloc: Global,
@@ -86,8 +86,8 @@ impl Parts {
         Ok(input)
     }
 
-    /// What the deed of an execution context, which isn't done, is for a virtual CPU. Memory can run out only where it gives the virtual
-    /// CPU's domain memory with bytes. What stays is as by `decide_in_state`.
+    /// The input that the deed of `ec`, which isn't done, is for the virtual CPU `guest`. Memory can run out only where it gives the virtual CPU's
+    /// domain memory with bytes. What stays is as by `decide_in_state`.
     #[tactic(auto, unfolding(nova_model::specs::Inputs::input_of))]
     pub fn input_of(
         &mut self,

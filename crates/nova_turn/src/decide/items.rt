@@ -13,8 +13,7 @@ use nova_model::{Delivery, Sequel, State};
 const RANGE_REGISTER: u32 = 12;
 
 impl Parts {
-    /// What a creator gives: a delegation of the range whose word is in x12, to the window that is the
-    /// range itself.
+    /// What the creator `ec` gives: a delegation of the range whose word is in x12, to the window that is the range itself.
     fn first_delivery(&self, ec: u32, domain: u32) -> Delivery
         requires { IsSome (context_at (state_of self.now) ec) }
         ensures { result ≡ first_delivery (state_of self.now) ec domain }
@@ -33,8 +32,7 @@ impl Parts {
         }
     }
 
-    /// The window of translations to an execution context: that in the message of a thread. A virtual CPU has
-    /// none.
+    /// The window of translations to `to`: that in the message of a thread. A virtual CPU has none.
     fn translations_to(&self, to: u32) -> u32
         ensures { result ≡ translations_to (state_of self.now) to }
     {
@@ -45,8 +43,7 @@ impl Parts {
         }
     }
 
-    /// The window of delegations to an execution context: that in the message of a thread, and for a virtual
-    /// CPU the whole space of the item's own type.
+    /// The window of delegations to `to`: that in the message of a thread, and for a virtual CPU the whole space of the item's own type.
     fn delegations_to(&self, to: u32, range_word: u32) -> u32
         ensures { result ≡ delegations_to (state_of self.now) to range_word }
     {
@@ -57,7 +54,7 @@ impl Parts {
         }
     }
 
-    /// What one execution context gives another: an item of its message, to the windows of the other.
+    /// What the execution context `from` gives `to`: item `item` of its message, to the windows of the other.
     fn delivery_between(
         &self,
         from: u32,
@@ -85,7 +82,7 @@ impl Parts {
         }
     }
 
-    /// What a handler takes: an item of its caller's message.
+    /// What the handler `ec` takes: item `item` of its caller's message.
     fn taken_from(&self, ec: u32, item: u32, caller: Option<(u32, Mark)>) -> Option<Delivery>
         requires there { IsSome (context_at (state_of self.now) ec) }
         requires item { item < 62 }
@@ -96,7 +93,7 @@ impl Parts {
         Some(self.delivery_between(caller, ec, item, Some(ec), Sequel::Taken))
     }
 
-    /// What a handler gives its caller: an item of its own message.
+    /// What the handler `ec` gives its caller: item `item` of its own message.
     fn given_to(&self, ec: u32, item: u32, caller: Option<(u32, Mark)>) -> Option<Delivery>
         requires there { IsSome (context_at (state_of self.now) ec) }
         requires item { item < 62 }
@@ -110,7 +107,7 @@ impl Parts {
         Some(self.delivery_between(ec, caller, item, told, Sequel::Replied(caller, mark)))
     }
 
-    /// The present item of an execution context; none in a state in which no items are given.
+    /// The present item of the execution context `ec`; none in a state in which no items are given.
     pub(crate) fn delivery(&self, ec: u32, item: u32) -> Option<Delivery>
         requires there { IsSome (context_at (state_of self.now) ec) }
         requires item { item < 62 }

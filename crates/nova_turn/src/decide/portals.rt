@@ -8,8 +8,7 @@ use nova_model::Object;
 use nova_range::Mtd;
 
 impl Parts {
-    /// The handler of a portal, where it begins, and which groups of an exit message the portal fills; each is 0
-    /// where there is none.
+    /// The handler of the portal `pt`, where it begins, and which groups of an exit message the portal fills; each is 0 where there is none.
     pub(crate) fn portal(&self, pt: u32) -> (u32, u32, Mtd)
         ensures handler { result.0 ≡ handler_of (state_of self.now) pt }
         ensures ip { result.1 ≡ ip_of (state_of self.now) pt }
@@ -21,7 +20,7 @@ impl Parts {
         }
     }
 
-    /// The identifier of a portal.
+    /// The identifier of the portal `pt`.
     pub(crate) fn identifier(&self, pt: u32) -> u32
         ensures { result ≡ identifier (state_of self.now) pt }
     {

@@ -12,9 +12,9 @@ use nova_model::{Deadline, Deed, Down, Rights};
 use nova_range::Status;
 
 impl Parts {
-    /// An up of a semaphore: it wakes the first that waits, or raises the counter. `BadCap` where the
-    /// capability names no semaphore with the right to up, `Overflow` at the greatest counter with nobody
-    /// waiting.
+    /// An up of the semaphore that `selector` names: it wakes the first that waits, or raises the counter.
+    /// `BadCap` where the capability names no semaphore with the right to up, `Overflow` at the greatest
+    /// counter with none waiting.
     fn up(&self, domain: u32, selector: u32) -> Result<Deed, Status>
         ensures row { result ≡ sm_ctrl (state_of self.now) 0 domain selector SmAction.Up }
         ensures fits { (ec : ℕ) → IfOk result (IsToBeDone (state_of self.now) ec) }
@@ -26,8 +26,8 @@ impl Parts {
         }
     }
 
-    /// A down of a semaphore: it lowers the counter, or waits. `BadCap` where the capability names no
-    /// semaphore with the right to down.
+    /// A down of the semaphore that `selector` names: it lowers the counter, or waits. `BadCap` where the
+    /// capability names no semaphore with the right to down.
     fn down(&self, domain: u32, selector: u32) -> Result<Deed, Status>
         ensures row { result ≡ sm_ctrl (state_of self.now) 0 domain selector SmAction.Down }
         ensures fits { (ec : ℕ) → IfOk result (IsToBeDone (state_of self.now) ec) }
@@ -39,7 +39,7 @@ impl Parts {
         })
     }
 
-    /// The deadline of an execution context that waits at a semaphore for so many ticks after this turn.
+    /// The deadline of `ec` where it waits at the semaphore `sm` for `ticks` ticks after this turn.
     fn deadline_after(&self, ec: u32, sm: u32, ticks: u32) -> Deadline
         requires { IsCounted (state_of self.now) }
         ensures { result ≡ deadline_after (state_of self.now) ec sm ticks }
@@ -52,8 +52,9 @@ impl Parts {
         }
     }
 
-    /// A down of a semaphore that waits for at most so many ticks. `BadCap` where the capability names no
-    /// semaphore with the right to down, `Timeout` at a counter of 0 without any tick.
+    /// A down by `ec` of the semaphore that `selector` names, which waits for at most `ticks` ticks. `BadCap`
+    /// where the capability names no semaphore with the right to down, `Timeout` at a counter of 0 without any
+    /// tick.
     fn down_within(&self, ec: u32, domain: u32, selector: u32, ticks: u32) -> Result<Deed, Status>
         requires there { IsSome (context_at (state_of self.now) ec) }
         requires counted { IsCounted (state_of self.now) }
@@ -71,7 +72,7 @@ impl Parts {
         }
     }
 
-    /// `SM_CTRL`: an up or a down of a semaphore.
+    /// `SM_CTRL` of `ec`: an up or a down of the semaphore that `selector` names.
     pub(crate) fn sm_ctrl(
         &self,
         ec: u32,

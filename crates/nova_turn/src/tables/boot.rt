@@ -89,7 +89,7 @@ fn root_groups(alloc: Global, cpus: u32, root: Root) -> Result<Groups, AllocErro
 }
 
 impl Parts {
-    /// The parts of a machine that boots, without images.
+    /// The parts of a machine of `cpus` processors that boots with `root`, without images.
     #[tactic(auto, using(nova_choice::proofs::Started::started))]
     pub fn new(
         alloc: Global,

@@ -6,7 +6,7 @@ use crate::parts::Parts;
 use nova_model::{EcKind, Object};
 
 impl Parts {
-    /// The protection domain of an execution context; what is none has one that there never is.
+    /// The protection domain of the execution context `ec`; for any other number, a domain that there never is.
     pub fn pd(&self, ec: u32) -> u32
         ensures { result ≡ pd_of (state_of self.now) ec }
     {
@@ -16,7 +16,7 @@ impl Parts {
         }
     }
 
-    /// The processor of an execution context.
+    /// The processor of the execution context `ec`.
     pub(crate) fn processor(&self, ec: u32) -> u32
         ensures { result ≡ processor_of (state_of self.now) ec }
     {
@@ -26,7 +26,7 @@ impl Parts {
         }
     }
 
-    /// Whether an execution context is a thread.
+    /// Whether the execution context `ec` is a thread.
     pub(crate) fn is_thread(&self, ec: u32) -> bool
         ensures { result ≡ is_thread (state_of self.now) ec }
     {
@@ -36,7 +36,7 @@ impl Parts {
         }
     }
 
-    /// Whether an execution context is a local thread.
+    /// Whether the execution context `ec` is a local thread.
     pub(crate) fn is_local_thread(&self, ec: u32) -> bool
         ensures { result ≡ is_local_thread (state_of self.now) ec }
     {

@@ -6,7 +6,7 @@ use crate::tables::groups::{Agenda, ContextTables, Groups, ObjectTables, let_go,
 use std::alloc::AllocError;
 
 impl Parts {
-    /// The same parts in memory of their own, with no room in the console log.
+    /// Copies the parts into memory of their own, with no room in the console log.
     pub fn copy(&self) -> Result<Parts, AllocError>
         ensures shown { IfOk result (λ p. state_of p ≡ state_of self.now) }
         ensures queues { IfOk result (λ p. p.queues.all ≡ self.now.queues.all) }
@@ -48,7 +48,7 @@ impl Parts {
     }
 
     /// The objects, and what portals and semaphores have, in memory of their own.
-    fn copied_objects(&self) -> Result<ObjectTables, AllocError>
+    pub(crate) fn copied_objects(&self) -> Result<ObjectTables, AllocError>
         ensures objects { IfOk result (λ t. t.objects.items ≡ self.now.objects.items) }
         ensures identifiers { IfOk result (λ t. t.identifiers.items ≡ self.now.identifiers.items) }
         ensures semaphores { IfOk result (λ t. t.semaphores.all ≡ self.now.semaphores.all) }
@@ -80,7 +80,7 @@ impl Parts {
     }
 
     /// What is to come, in memory of its own.
-    fn copied_agenda(&self) -> Result<Agenda, AllocError>
+    pub(crate) fn copied_agenda(&self) -> Result<Agenda, AllocError>
         ensures queues { IfOk result (λ t. t.queues.all ≡ self.now.queues.all) }
         ensures times { IfOk result (λ t. t.times.all ≡ self.now.times.all) }
         ensures revokes { IfOk result (λ t. t.revokes.list ≡ self.now.revokes.list) }

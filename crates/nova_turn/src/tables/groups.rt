@@ -27,7 +27,7 @@ pub(crate) struct ContextTables {
     pub guests: StirCounts,
 }
 
-/// What is to come: who waits for a processor, what is due when, and which revokes run.
+/// What is to come: what waits for a processor, what is due when, and which revokes run.
 #[derive(Drop)]
 pub(crate) struct Agenda {
     pub queues: Queues,
@@ -43,7 +43,7 @@ pub(crate) struct Groups {
     pub agenda: Agenda,
 }
 
-/// What is let go here is dropped apart from all else.
+/// Drops a value out of line, which keeps the caller's proof small.
 pub(crate) fn let_go<T: Drop>(_value: T) {}
 
 /// The parts of a kernel, of what they are made from.

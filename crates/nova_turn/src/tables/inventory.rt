@@ -10,7 +10,7 @@ use nova_objects::Objects;
 use std::alloc::{AllocError, Global};
 use std::marker::Model;
 
-/// Some objects, as far as they are known: none, at most the one of a number, or perhaps several.
+/// Some objects, as far as they are known: none, at most that of a number, or perhaps several.
 #[derive(Clone, Copy)]
 pub(crate) enum Numbers {
     Empty,
@@ -19,7 +19,7 @@ pub(crate) enum Numbers {
 }
 
 impl Numbers {
-    /// Those and these.
+    /// These numbers and `others`.
     pub(crate) fn and(self, others: Numbers) -> Numbers
         ensures { result ≡ both self others }
     {
@@ -35,7 +35,7 @@ impl Numbers {
     }
 }
 
-/// A new object joins what is kept of its protection domain, where it is a virtual CPU.
+/// Adds `number` to what is kept of the protection domain of `object`, where it is a virtual CPU.
 fn house(homes: &mut Vec<Numbers>, object: Object, number: u32)
     ensures items { homes.new.items ≡ housed (home_of (Some object)) number homes.old.items }
     ensures len { vec_len homes.new ≡ vec_len homes.old }
@@ -54,7 +54,7 @@ fn house(homes: &mut Vec<Numbers>, object: Object, number: u32)
     }
 }
 
-/// A new object joins what is kept of its execution context, where it is a scheduling context.
+/// Adds `number` to what is kept of the execution context of `object`, where it is a scheduling context.
 fn bind(owners: &mut Vec<Numbers>, object: Object, number: u32)
     ensures items { owners.new.items ≡ housed (owner_in (Some object)) number owners.old.items }
     ensures len { vec_len owners.new ≡ vec_len owners.old }
@@ -91,8 +91,7 @@ impl Model for Inventory {
 }
 
 impl Inventory {
-    /// Objects of which none is a virtual CPU, and none a scheduling context but the one of this number, with no
-    /// room for more.
+    /// The inventory of `objects`, of which none is a virtual CPU, and none a scheduling context but `sc`, with no room for more.
     pub(crate) fn new(alloc: Global, objects: Objects, sc: u32) -> Result<Inventory, AllocError>
         requires guests { (guest pd : ℕ) → home_of (slice_get objects.items guest) ≡ Some pd → ⊥ }
         requires schedules { (number ec : ℕ) → owner_in (slice_get objects.items number) ≡ Some ec → sc ≡ number }
@@ -124,8 +123,7 @@ impl Inventory {
         Ok(())
     }
 
-    /// Adds an object in reserved room. There are fewer than 2^32 - 1 objects before, and what they refer
-    /// to is there.
+    /// Adds `object` in reserved room. There are fewer than 2^32 - 1 objects before, and what they refer to is there.
     pub(crate) fn add(&mut self, object: Object)
         requires room { 0 < self.old.spare }
         requires numbered { length self.old.items < 2 ^ 32 - 1 }
@@ -140,7 +138,7 @@ impl Inventory {
         self.spare -= 1;
     }
 
-    /// The object of a number, or nothing where none has it.
+    /// The object of number `id`, or nothing where none has it.
     pub fn get(&self, id: u32) -> Option<&Object>
         ensures { option_copied result ≡ slice_get self.now.items id }
     {
@@ -168,7 +166,7 @@ impl Inventory {
         self.objects.len()
     }
 
-    /// The same objects in memory of their own, with no spare room.
+    /// Copies the objects into memory of their own, with no spare room.
     pub(crate) fn copy(&self) -> Result<Inventory, AllocError>
         ensures { IfOk result (λ copy. copy ≡ record { items = self.now.items; spare = 0 }) }
     {
@@ -183,7 +181,7 @@ impl Inventory {
         })
     }
 
-    /// The virtual CPUs of a protection domain, but for this one.
+    /// The virtual CPUs of the protection domain `pd`, but for `ec`.
     pub(crate) fn others(&self, pd: u32, ec: u32) -> Numbers
         ensures { AreOthers self.now.items ec pd result }
     {
@@ -195,7 +193,7 @@ impl Inventory {
         }
     }
 
-    /// What scheduling contexts an execution context has.
+    /// What scheduling contexts the execution context `ec` has.
     pub(crate) fn schedules_of(&self, ec: u32) -> Numbers
         ensures { (sc : ℕ) → owner_in (slice_get self.now.items sc) ≡ Some ec → Includes sc result }
     {

@@ -9,7 +9,7 @@ use crate::parts::Parts;
 use nova_utcb::Utcb;
 
 impl Parts {
-    /// Whether the data words of an execution context hold what its message counts.
+    /// Whether the data words of the execution context `ec` hold what its message counts.
     #[inline(always)]
     pub(crate) fn has_counts(&self, ec: u32) -> bool
         ensures { result ≡ has_counts (message (state_of self.now) ec) }
@@ -20,7 +20,7 @@ impl Parts {
         }
     }
 
-    /// Whether the message of an execution context counts items.
+    /// Whether the message of the execution context `ec` counts items.
     #[inline(always)]
     pub(crate) fn has_items(&self, ec: u32) -> bool
         ensures { result ≡ has_items (message (state_of self.now) ec) }
@@ -31,7 +31,7 @@ impl Parts {
         }
     }
 
-    /// The message of an execution context is copied to another one.
+    /// Copies the message of the execution context `from` to that of `to`.
     #[inline(always)]
     pub(crate) fn pass_message(&mut self, from: u32, to: u32)
         requires counts { has_counts (message (state_of self.old) from) ≡ true }
@@ -42,7 +42,7 @@ impl Parts {
         self.reach.pass_message(from, to);
     }
 
-    /// An execution context finds other message words.
+    /// Sets the message words of the execution context `ec` to `message`.
     pub(crate) fn set_message(&mut self, ec: u32, message: &Utcb)
         requires { ec < length (state_of self.old).messages }
         ensures shown { state_of self.new ≡ with_message (state_of self.old) ec message.now }

@@ -15,7 +15,7 @@ use std::alloc::AllocError;
 const ROOT: u32 = 0;
 
 impl Parts {
-    /// Makes a source: a semaphore of counter 0, as the next object, that an alarm ups, with a capability of the root's to it at the
+    /// Makes a source of the processor `cpu`: a semaphore of counter 0, as the next object, that an alarm ups. The root has a capability to it at the
     /// selector of its number.
     pub fn add_source(
         &mut self,

@@ -3,7 +3,7 @@ use Rattle.nova_model.specs.Boot.{with_images}
 use Rattle.nova_boot.specs.Boot.{image_of, LieInRam}
 use Rattle.nova_boot.proofs.start.lay.Given as goal
 
--- with the images that are left the kernel is the one to make, and they lie in its RAM
+-- with the images that are left the kernel is that which is to be made, and they lie in its RAM
 abbrev pub invariant-loop-image : goal.invariant-loop-image
 invariant-loop-image l = record {
   rest : record l.kernel { state = with_images l.kernel.state (map image_of (drop l.image-index l.images)) }

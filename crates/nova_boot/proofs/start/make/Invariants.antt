@@ -5,7 +5,7 @@ use Rattle.nova_scenario.specs.Sound.{IsSourceOf}
 use Rattle.nova_boot.specs.Boot.{source_of}
 use Rattle.nova_boot.proofs.start.make.Given as goal
 
--- with the sources that are left the kernel is the one to make
+-- with the sources that are left the kernel is that which is to be made
 abbrev pub invariant-loop-source : goal.invariant-loop-source
 invariant-loop-source l = record {
   rest : with_sources l.kernel.state (map source_of (drop l.source-index l.sources)) ≡ with_sources l.fn.kernel.state (map source_of l.sources);

@@ -5,7 +5,7 @@ use Rattle.nova_turn.specs.Parts.{state_of}
 use Rattle.nova_turn.specs.StoresSeen.{AreSeersOf}
 use Rattle.nova_kernel.proofs.riding.ride_beside.Given as goal
 
--- those that went on so far
+-- the instructions that went on up to now
 abbrev pub invariant-loop-left : goal.invariant-loop-left
 invariant-loop-left l =
     (rides (l.most - l.left) (with_regs (state_of l.fn.parts) l.ec l.fn.regs) l.ec ≡ Some (with_regs (state_of l.parts) l.ec l.regs))

@@ -4,7 +4,7 @@ use Rattle.nova_turn.specs.StoresSeen.{AreSeersOf}
 use Rattle.nova_kernel.specs.Rides.{IsBeside, IsLater, IsNext}
 use Rattle.nova_kernel.proofs.riding.ride_quanta.Given as goal
 
--- those so far, with the same one to go on
+-- the turns up to now, with the same context to go on
 abbrev pub invariant-loop-count : goal.invariant-loop-count
 invariant-loop-count l = record {
   few : l.count ≤ l.most;

@@ -3,7 +3,7 @@ use Rattle.nova_model.specs.Inputs.{reply_words}
 use Rattle.nova_utcb.specs.Messages.{IsMessage}
 use Rattle.nova_preview.proofs.replies.reply_words.Given as goal
 
--- the words so far
+-- the words up to now
 abbrev pub invariant-loop-i : goal.invariant-loop-i
 invariant-loop-i l = record {
   many : length l.words ≡ 33;

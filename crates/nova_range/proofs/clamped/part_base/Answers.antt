@@ -1,4 +1,4 @@
--- The remainder that is taken away is at most the one that is added.
+-- The remainder that is taken away is at most the remainder that is added.
 use Rattle.std.proofs.Common.{◌<◌, arith}
 use Rattle.std.proofs.lemmas.Nat.{one_shl}
 use Rattle.nova_range.proofs.Multiples.{remainders}

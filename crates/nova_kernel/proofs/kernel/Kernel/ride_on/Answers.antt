@@ -43,19 +43,9 @@ quanta-requires-clause-acts c =
 pub invariant_of-self : goal.invariant_of-self
 invariant_of-self c =
     let k : KernelState = state_of c.self.inside.parts in
-    let reached : IsReached k = c.self.invariant.1.1.1.0 in (
-      c.quanta.ensures.counted,
-      (
-        c.quanta.ensures.queued,
-        (
-          c.quanta.ensures.running,
-          (
-            subst IsReached (sym c.quanta.ensures.state) (run_reached k (replicate c.quanta.result.count c.args.cpu) reached),
-            (
-              c.quanta.ensures.known c.self.inside.known c.self.invariant.1.1.1.1.0,
-              subst IsBegun (sym c.quanta.ensures.state) (run_begun k (replicate c.quanta.result.count c.args.cpu) c.self.invariant.1.1.1.1.1),
-            ),
-          ),
-        ),
-      ),
-    )
+    let had = c.self.invariant in record {
+      tables = record { counted = c.quanta.ensures.counted; queued = c.quanta.ensures.queued; running = c.quanta.ensures.running };
+      reached = subst IsReached (sym c.quanta.ensures.state) (run_reached k (replicate c.quanta.result.count c.args.cpu) had.reached);
+      known = c.quanta.ensures.known c.self.inside.known had.known;
+      begun = subst IsBegun (sym c.quanta.ensures.state) (run_begun k (replicate c.quanta.result.count c.args.cpu) had.begun);
+    }

@@ -13,11 +13,11 @@ pub refresh-requires : goal.refresh-requires
 refresh-requires c =
     let k : KernelState = state_of c.args.self.now in
     subst (λ (o : Option ℕ). AreQueuedAfter o (state_of c.carry_out.new.self) c.carry_out.new.self.queues.all) (sym c.moved_by.ensures)
-    (queued_moved k (state_of c.carry_out.new.self) c.args.self.now.queues.all c.carry_out.new.self.queues.all c.args.ec c.in_ok-deed.deed
-    (may_move k c.args.ec c.requires.ready.counted c.requires.there c.requires.acts) c.in_ok-deed.ensures.fits c.requires.ready.queued c.in_ok-deed.ensures.done
-    c.in_ok-deed.ensures.queues)
+    (queued_moved k (state_of c.carry_out.new.self) c.args.self.now.queues.all c.carry_out.new.self.queues.all c.args.ec c.args.deed
+    (may_move k c.args.ec c.requires.ready.tables.counted c.requires.there c.requires.acts) c.requires.fits.0 c.requires.ready.tables.queued c.in_ok-carry_out.ensures.done
+    c.in_ok-carry_out.ensures.queues)
 
 pub returns-clause-kept : goal.returns-clause-kept
 returns-clause-kept c =
     let k : KernelState = state_of c.args.self.now in
-    subst (λ (s : KernelState). KeepsCounts k s) (sym (c.refresh.ensures.shown ∙ c.in_ok-deed.ensures.done)) (done-keeps k c.args.ec c.in_ok-deed.deed c.in_ok-deed.ensures.fits)
+    subst (λ (s : KernelState). KeepsCounts k s) (sym (c.refresh.ensures.shown ∙ c.in_ok-carry_out.ensures.done)) (done-keeps k c.args.ec c.args.deed c.requires.fits.0)

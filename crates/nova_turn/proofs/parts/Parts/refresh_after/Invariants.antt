@@ -3,7 +3,7 @@ use Rattle.nova_choice.specs.Schedules.{AreQueuedBy}
 use Rattle.nova_turn.specs.Parts.{state_of}
 use Rattle.nova_turn.proofs.parts.Parts.refresh_after.Given as goal
 
--- marks that may be old are those of whoever comes to the one that is next
+-- marks that may be old are those of all that come to the next
 abbrev pub invariant-loop : goal.invariant-loop
 invariant-loop l = record {
   queued : AreQueuedBy l.fn.moved l.at (state_of l.self) l.self.queues.all;

@@ -1,6 +1,0 @@
--- The table of message words: an entry for each object, and room for so many more.
-use Rattle.std.specs.Prelude.{ℕ, List, Option}
-
-pub record MessageTable : Type 0 where
-  pub items : List (Option (List ℕ))
-  pub spare : ℕ

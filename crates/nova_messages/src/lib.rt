@@ -1,0 +1,6 @@
+//! The message words of threads, by the number of their object.
+#![tactic(auto)]
+
+mod messages;
+
+pub use messages::Messages;
