@@ -10,9 +10,9 @@ kit is used again, by checksums: the times of files mean nothing. With --plan no
 the room on disk. --built says by its status, 0 or 1, whether CRATE is built of the sources that are here. --above says what a change of each
 crate proves again: how many crates, itself among them, and the minutes of their proofs by one job. Nothing is built.
 
-Crates are proved side by side, each as soon as those below it are proved. Those with nearly the longest way to the top go before the others, and
-have as many jobs as there are processors. How long it takes yet is reckoned from costs.txt, which has each crate's seconds by one job, and from how fast this
-machine was so far.
+Crates are proved side by side, each as soon as those below it are proved. Those with nearly the longest way to the top go before the others, by
+as many jobs as pay. How long it takes yet is reckoned from costs.txt, which has each crate's seconds by one job, and from how fast this machine was so
+far.
 
 Ended by a signal, it ends what it began. A second one in the same tree waits for the first.
 """
@@ -33,7 +33,7 @@ from pathlib import Path
 from built import TOP, WORKERS, State, crates, ended, is_release, path_of, record, schedule, state_of
 from children import Children, Ended
 from kit import NoKit, folder, proved
-from schedule import Schedule, above, costs, seconds_by
+from schedule import BESIDE, Schedule, Start, above, costs, seconds_by
 from trees import copy_of_sources, hand_on
 
 # A crate that takes no more seconds was kept, and tells nothing of how fast the machine is.
@@ -57,7 +57,7 @@ class Builder:
         self.proved = done
         self.children = Children()
         self._begun: dict[str, float] = {}
-        self._jobs: dict[str, int] = {}
+        self._starts: dict[str, Start] = {}
         self._anew: dict[str, float] = {}
         self._trees: list[Path] = []
 
@@ -71,7 +71,7 @@ class Builder:
 
     def _wanted(self, crate: str) -> float:
         """The seconds of a crate that is begun, or was, by its jobs and at a pace of 1."""
-        return seconds_by(self._jobs[crate], self.plan.cost[crate])
+        return seconds_by(self._starts[crate].jobs, self.plan.cost[crate])
 
     def _pace(self, running: dict[str, float]) -> float:
         """How many seconds this machine takes for one of cost. What runs for longer than it should counts as well."""
@@ -84,8 +84,8 @@ class Builder:
         tree = self._trees.pop()
         for other in [*self.plan.below[crate], crate]:
             hand_on(other, TOP, tree)
-        jobs = self._jobs[crate]
-        status, said = self.children.run(["rt", "lib", "--jobs", str(jobs)], tree / "crates" / crate, behind=jobs < self.plan.jobs)
+        start = self._starts[crate]
+        status, said = self.children.run(["rt", "lib", "--jobs", str(start.jobs)], tree / "crates" / crate, behind=not start.is_near)
         if status == 0:
             hand_on(crate, tree, TOP)
         self._trees.append(tree)
@@ -101,8 +101,8 @@ class Builder:
         left = [crate for crate in self.plan.below if crate not in self.proved]
         out = path_of(self.plan.program).parent
         out.mkdir(parents=True, exist_ok=True)
-        with tempfile.TemporaryDirectory(prefix="trees-", dir=out) as room, concurrent.futures.ThreadPoolExecutor(WORKERS) as pool:
-            self._trees = [copy_of_sources(room) for _ in range(min(WORKERS, len(left) - 1))]
+        with tempfile.TemporaryDirectory(prefix="trees-", dir=out) as room, concurrent.futures.ThreadPoolExecutor(WORKERS + BESIDE) as pool:
+            self._trees = [copy_of_sources(room) for _ in range(min(WORKERS + BESIDE, len(left) - 1))]
             try:
                 return self._build(left, pool)
             except BaseException:
@@ -112,9 +112,9 @@ class Builder:
     def _build(self, left: list[str], pool: concurrent.futures.Executor) -> int:
         running: dict[concurrent.futures.Future[tuple[int, str]], str] = {}
         while left or running:
-            for crate, jobs in self.plan.next(left, self.proved, list(running.values())).items():
+            for crate, start in self.plan.next(left, self.proved, list(running.values())).items():
                 left.remove(crate)
-                self._begun[crate], self._jobs[crate] = time.monotonic(), jobs
+                self._begun[crate], self._starts[crate] = time.monotonic(), start
                 running[pool.submit(*((self.make,) if crate == self.plan.program else (self.prove, crate)))] = crate
             done = concurrent.futures.wait(running, SILENCE, concurrent.futures.FIRST_COMPLETED).done
             if not done:

@@ -4,6 +4,8 @@ from __future__ import annotations
 
 import os
 import select
+import shlex
+import subprocess
 import sys
 from collections.abc import Callable
 from pathlib import Path
@@ -49,13 +51,15 @@ def finished(work: Callable[[], int]) -> int:
 def ended(name: str, work: Callable[[], int]) -> int:
     """The status that a tool's work comes to.
 
-    Where a file or a program isn't there, or a file is no text, the tool says so by its name, with status 1; so it says that it was interrupted, with
-    status 130. Where nobody reads on, the status is 141, and nothing is said.
+    Where a file or a program isn't there, a file is no text, or a command failed that the tool needs, it says so by its name, with status 1; so it says
+    that it was interrupted, with status 130. Where nobody reads on, the status is 141, and nothing is said.
     """
     try:
         return finished(work)
     except Missing as why:
         return say(name, str(why))
+    except subprocess.CalledProcessError as error:
+        return say(name, f"{error.cmd if isinstance(error.cmd, str) else shlex.join(map(str, error.cmd))}: status {error.returncode}")
     except UnicodeDecodeError as error:
         return say(name, f"a file is no text: {error.reason} at byte {error.start}")
     except KeyboardInterrupt:

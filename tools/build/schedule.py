@@ -12,8 +12,13 @@ from pathlib import Path
 UNKNOWN = 30
 # The share of a crate's seconds that more jobs don't shorten: what is below is loaded, and the last function waits for.
 UNSHARED = 0.4
-# The crates that have all jobs, and go before others: those whose way to the top is at least this share of the longest.
+# The crates that go before others: those whose way to the top is at least this share of the longest.
 NEAR = 0.8
+# How many of these are begun at most beside as many crates as there are workers.
+BESIDE = 2
+# The crates that several jobs prove sooner, each with how many pay. Elsewhere a job more reads again what all of a crate's functions promise, and gains
+# nothing.
+PAYING = {"nova_turn": 4, "nova_memory": 2, "nova_nodes": 2, "nova_kernel": 2, "nova_run": 2}
 
 Names = Mapping[str, list[str]]
 
@@ -32,6 +37,14 @@ def costs() -> dict[str, int]:
     """The seconds of each crate's proof by one job, on an idle core."""
     lines = (Path(__file__).parent / "costs.txt").read_text().splitlines()
     return {crate: int(seconds) for crate, seconds in map(str.split, lines)}
+
+
+@dataclass(frozen=True, slots=True)
+class Start:
+    """How a crate begins: by how many jobs, and whether it goes before others."""
+
+    jobs: int
+    is_near: bool = False
 
 
 def seconds_by(jobs: int, cost: float) -> float:
@@ -88,12 +101,19 @@ class Schedule:
         able = [crate for crate in left if all(other in proved for other in self.below[crate])]
         return sorted(able, key=lambda crate: -ways[crate])
 
-    def next(self, left: Iterable[str], proved: Collection[str], running: Collection[str]) -> dict[str, int]:
-        """The crates that begin now, each with its jobs. Those with the longest way to the top, or nearly, have all of them, since others that are
-        short end long before they do, and the others have one each. The program itself has one: most of its time is the compiler's."""
-        begun, ways = self.ready(left, proved)[: self.workers - len(running)], self.ways()
-        near = NEAR * max((ways[crate] for crate in [*running, *begun]), default=0)
-        return {crate: self.jobs if crate != self.program and ways[crate] >= near else 1 for crate in begun}
+    def next(self, left: Iterable[str], proved: Collection[str], running: Collection[str]) -> dict[str, Start]:
+        """The crates that begin now. Those with the longest way to the top, or nearly, wait for no worker, and have as many jobs as pay; the others
+        have one each, as far as there are workers. The program itself has one: most of its time is the compiler's."""
+        ready, ways = self.ready(left, proved), self.ways()
+        near = NEAR * max((ways[crate] for crate in [*running, *ready]), default=0)
+        begun: dict[str, Start] = {}
+        for crate in ready:
+            is_near = ways[crate] >= near
+            if len(running) + len(begun) >= self.workers + (BESIDE if is_near else 0):
+                break
+            jobs = min(self.jobs, PAYING.get(crate, 1)) if is_near else 1
+            begun[crate] = Start(jobs, is_near)
+        return begun
 
     def seconds_left(self, proved: Collection[str], running: Mapping[str, float], pace: float) -> float:
         """How long the rest takes, the program's own proof and compiling included.
@@ -106,9 +126,9 @@ class Schedule:
         heapq.heapify(ends)
         now = 0.0
         while left or ends:
-            for crate, jobs in self.next(left, done, [crate for _, crate in ends]).items():
+            for crate, start in self.next(left, done, [crate for _, crate in ends]).items():
                 left.remove(crate)
-                heapq.heappush(ends, (now + seconds_by(jobs, self.cost[crate]) * pace, crate))
+                heapq.heappush(ends, (now + seconds_by(start.jobs, self.cost[crate]) * pace, crate))
             now, crate = heapq.heappop(ends)
             done.add(crate)
         return now

@@ -23,7 +23,7 @@ abbrev pub IsFaultOf : Error → CommandFault → Type 0
 IsFaultOf error Usage = kind_of error ≢ OutOfMemory
 IsFaultOf error Memory = Unit {0}
 
--- the words could not be read: one is no text, or memory was refused
+-- the words could not be read: a word is no text, or memory was refused
 abbrev pub of_words : ErrorKind → CommandFault
 of_words InvalidData = Usage
 of_words _ = Memory

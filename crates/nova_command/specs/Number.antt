@@ -6,6 +6,6 @@ use Rattle.nova_text.specs.Number.{number}
 abbrev pub within : ℕ → ℕ → ℕ → Option ℕ
 within first last n = if nat_le first n && nat_le n last then Some n else None
 
--- the one that a text writes
+-- the number that a text writes
 unfoldable pub number_within : ℕ → ℕ → List ℕ → Option ℕ
 number_within first last text = option_and_then (within first last) (number text)

@@ -18,7 +18,7 @@ pub enum CommandFault {
 }
 
 impl CommandFault {
-    /// Why words could not be read: one that is no text is no command, nor a part of one.
+    /// The fault of words that could not be read, by the error's `kind`: Usage where a word is no text, and else Memory.
     pub fn of_words(kind: ErrorKind) -> CommandFault
         ensures { result ≡ of_words kind }
     {

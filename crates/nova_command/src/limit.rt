@@ -9,7 +9,7 @@ const MOST_TURNS: u32 = 10_000_000;
 /// The most domains of a bench.
 const MOST_DOMAINS: u32 = 90_000;
 
-/// The limit that a text writes.
+/// The limit that `text` writes.
 pub(crate) fn read_limit(text: &str) -> Option<u32>
     ensures exact { result ≡ limit_of text.now }
     ensures range { IfSome result IsLimit }
@@ -17,7 +17,7 @@ pub(crate) fn read_limit(text: &str) -> Option<u32>
     number_within(text, 1, MOST_TURNS)
 }
 
-/// The number of domains that a text writes.
+/// The number of domains that `text` writes.
 pub(crate) fn read_size(text: &str) -> Option<u32>
     ensures exact { result ≡ size_of text.now }
     ensures range { IfSome result IsSize }

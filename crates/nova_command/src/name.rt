@@ -18,7 +18,7 @@ impl Model for Name {
 }
 
 impl Name {
-    /// The name that a text is.
+    /// The name that `text` is.
     pub fn from_text(alloc: Global, text: &str) -> Result<Name, AllocError>
         ensures { IfOk result (λ name. name ≡ text.now) }
     {

@@ -11,7 +11,7 @@ use clap::error::ErrorKind;
 use clap::{ArgMatches, Command, Error};
 use std::alloc::{AllocError, Global};
 
-/// The name of a program and then the words after it.
+/// The name `program` and then `words`, the words after it.
 pub fn with_program_name<'a>(
     alloc: Global,
     program: &'a str,
@@ -26,7 +26,7 @@ pub fn with_program_name<'a>(
     Ok(named)
 }
 
-/// What failed in a parse: memory, or else the words.
+/// What failed in a parse, by `error`: memory, or else the words.
 fn fault_of(error: &Error) -> CommandFault
     ensures { IsFaultOf error.now result }
 {
@@ -49,7 +49,7 @@ pub fn parse<'a>(form: Command<'a>, words: &'a [&'a str]) -> Result<ArgMatches<'
     }
 }
 
-/// The first text that `matches` have of an argument.
+/// The first text that `matches` have of `argument`.
 pub fn text_of<'a>(matches: &ArgMatches<'a>, argument: &str) -> Option<&'a str>
     ensures { option_map (λ text. text.now) result ≡ first_of argument.now (rows_of (found_of matches.now)) }
 {

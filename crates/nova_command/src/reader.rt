@@ -17,8 +17,8 @@ use crate::verb::Verb;
 use clap::ArgMatches;
 use std::alloc::Global;
 
-/// Reads the words after the program's own name as a command: `run SCENARIO ORDER`, `solo SCENARIO`, `solo SCENARIO ORDER`,
-/// `check SCENARIO`, `bench NUMBER` or `twin NAME`, with the option `--limit N` anywhere among them.
+/// Reads `words`, those after the program's own name, as a command. It is `run SCENARIO ORDER`, `solo SCENARIO`, `solo SCENARIO ORDER`, `check
+/// SCENARIO`, `bench NUMBER` or `twin NAME`, with the option `--limit N` anywhere among them.
 ///
 /// N and NUMBER are decimal digits, or `0x` and hexadecimal digits. N is a number from 1 to 10,000,000, for `check` too, which
 /// has no use for it; where it is not given, the limit is 1,000,000. NUMBER is one from 1 to 90,000. `Usage` comes exactly where the words are no command, and
@@ -51,7 +51,7 @@ fn command_of(alloc: Global, matches: &ArgMatches) -> Result<Command, CommandFau
     }
 }
 
-/// The command of a verb and one name.
+/// The command of `verb` and the name `name`.
 fn of_name(alloc: Global, verb: Verb, name: &str, limit: u32) -> Result<Command, CommandFault>
     requires { IsLimit limit }
     ensures exact { Answers (asked (Some verb) (Some name.now) None (Some limit)) result }
@@ -75,7 +75,7 @@ fn of_name(alloc: Global, verb: Verb, name: &str, limit: u32) -> Result<Command,
     }
 }
 
-/// The command of a verb and two names.
+/// The command of `verb` and the names `first` and `second`.
 fn of_names(
     alloc: Global,
     verb: Verb,
@@ -102,7 +102,7 @@ fn of_names(
     }
 }
 
-/// A bench of the number of domains that a text writes.
+/// A bench of the number of domains that `number` writes.
 fn bench_of(number: &str, limit: u32) -> Result<Command, CommandFault>
     requires limit { IsLimit limit }
     ensures exact { Answers (benched (size_of number.now) limit) result }

@@ -13,7 +13,7 @@ pub(crate) enum Verb {
 impl Verb {
     ghost use Rattle.nova_command.specs.Verb.{verb_of};
 
-    /// The verb that a word stands for.
+    /// The verb that `word` stands for.
     pub(crate) fn from_word(word: &str) -> Option<Verb>
         ensures { result ≡ verb_of word.now }
     {

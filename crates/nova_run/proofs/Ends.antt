@@ -11,10 +11,10 @@ use Rattle.law_turns.proofs.Processors.{run_cpus}
 use Rattle.nova_order.specs.Blocks.{turns}
 use Rattle.nova_order.proofs.BlockLemmas.{length_turns}
 use Rattle.nova_order.proofs.BoundLemmas.{all_append}
-use Rattle.nova_run.specs.Finished.{IsFinished}
-use Rattle.nova_run.specs.UnderWay.{IsReady, Passed, left}
-use Rattle.nova_shared.specs.declared.finished.Finished.{Finished}
-use Rattle.nova_shared.proofs.Passing.{Finished-on}
+use Rattle.nova_rounds.specs.Finished.{IsFinished}
+use Rattle.nova_rounds.specs.UnderWay.{IsReady, Passed, left}
+use Rattle.nova_finished.specs.declared.finished.Finished.{Finished}
+use Rattle.nova_finished.proofs.Passing.{Finished-on}
 
 module _ (k : KernelState) (limit : ℕ) (f g : Finished) (begun : IsFinished k (turns f.order.blocks) limit f) (ready : IsReady f) (ran : Passed f (rounds f.kernel.state (left f)) g) where
   before : List ℕ

@@ -7,8 +7,9 @@ use crate::crew::Crew;
 use crate::gate::Gate;
 use law_leases::CommitDone;
 use nova_burst::{Lease, commit, lease};
+use nova_finished::Block;
 use nova_kernel::Kernel;
-use nova_shared::{Block, CpuSeat, Shared};
+use nova_shared::{CpuSeat, Shared};
 use std::alloc::Global;
 use std::sync::Wait;
 
@@ -20,12 +21,12 @@ const LEAST: u32 = 256;
 
 const LEAST_ALONE: u32 = 4096;
 
-/// For how many instructions a lease is worth its cost, among so many workers.
+/// The least number of instructions for which a lease is worth its cost, among `workers` workers.
 fn least_among(workers: u64) -> u32 {
     if workers < 2 { LEAST_ALONE } else { LEAST }
 }
 
-/// Whether less than so much is left of the quantum of the scheduling context that is chosen on a processor.
+/// Whether less than `least` is left of the quantum of the scheduling context that is chosen on the processor `cpu`.
 fn has_little_left(kernel: &Kernel, cpu: u32, least: u32) -> bool {
     match kernel.choose(cpu) {
         Some(sc) => matches!(kernel.left(sc), Some(left) if left < least),
@@ -33,8 +34,8 @@ fn has_little_left(kernel: &Kernel, cpu: u32, least: u32) -> bool {
     }
 }
 
-/// A lease of the virtual CPU that acts on a processor, where that can be had and at least so much is left of its quantum. One for which memory runs
-/// out is none.
+/// A lease of the virtual CPU that acts on the processor `cpu`, where that can be had and at least `least` is left of its quantum. A lease for which
+/// memory runs out is none.
 fn leased(kernel: &mut Kernel, alloc: Global, cpu: u32, least: u32) -> Option<Lease>
     ensures stems { IfSome result (λ l. (l.run.cpu ≡ cpu) × StemsFrom l kernel.old.state) }
     ensures kept { kernel.new ≡ kernel.old }
@@ -48,7 +49,7 @@ fn leased(kernel: &mut Kernel, alloc: Global, cpu: u32, least: u32) -> Option<Le
     leased
 }
 
-/// The turns that came of a commit.
+/// The turns that came of a commit that answered `done`.
 fn turns_of(done: CommitDone) -> u64
     ensures { result ≡ turns_of done }
 {
@@ -75,7 +76,7 @@ impl Block for Leasing {
 
     ghost tells = { λ b cpu k left next turns. (turns ≡ 0) × IfSome next.lease (λ l. (l.run.cpu ≡ cpu) × StemsFrom l k) };
 
-    #[tactic(auto, using(nova_shared::proofs::Stepping::no_steps))]
+    #[tactic(auto, using(nova_finished::proofs::Stepping::no_steps))]
     fn act(&mut self, kernel: &mut Kernel, cpu: u32, left: u64) -> u64 {
         self.lease = leased(kernel, self.alloc, cpu, self.least);
         self.left = left;
@@ -97,7 +98,7 @@ impl Block for Committing {
 
     ghost tells = { λ b cpu k left next turns. Unit {0} };
 
-    #[tactic(auto, using(nova_shared::proofs::Stepping::no_steps))]
+    #[tactic(auto, using(nova_finished::proofs::Stepping::no_steps))]
     fn act(&mut self, kernel: &mut Kernel, _cpu: u32, left: u64) -> u64 {
         let Some(lease) = self.lease.take() else {
             return 0;
@@ -106,9 +107,9 @@ impl Block for Committing {
     }
 }
 
-/// A burst of the processor of a seat, of at most so many instructions, beside other workers; and how many turns it was. It is leased in one use of the
-/// kernel, runs on its copies while others use the kernel, and is committed in another use. It was none where nothing could be leased, and where nothing
-/// was committed.
+/// Runs a burst of the processor of `seat`, of at most `most` instructions, beside other workers, and returns how many turns it was. It is leased in
+/// one use of the kernel, runs on its copies while others use the kernel, and is committed in another use. It was none where nothing could be leased,
+/// and where nothing was committed.
 pub(crate) fn burst<R: Wait, G: Gate>(
     rt: &R,
     alloc: Global,

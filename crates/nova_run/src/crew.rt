@@ -18,7 +18,7 @@ static PACES: [u64; 6] = [16, 64, 256, 1024, 4096, 8192];
 /// How many turns a worker takes in one use of the kernel at most, so that others aren't kept waiting for long.
 const MOST_AT_ONCE: u64 = 4096;
 
-/// How many turns of all there are for each that a use has at most; and how many sizes a use may have, each half of the one before.
+/// How many turns of all there are for each that a use has at most; and how many sizes a use may have, each half of the size before.
 const TURNS_FOR_EACH: u64 = 64;
 
 const SIZES: u64 = 13;
@@ -36,18 +36,18 @@ pub(crate) struct Crew {
     ended: AtomicU64,
     promised: AtomicU64,
 
-    // What they draw pauses from. Of two who stir it at once one is lost, so that it differs from run to run.
+    // What they draw pauses from. Of two stirs at once one is lost, so that it differs from run to run.
     noise: AtomicU64,
 }
 
-/// The noise that comes after one: each number comes after one other.
+/// The noise that comes after `noise`: each number comes after one other.
 fn stirred(noise: u64) -> u64 {
     let spread = noise.wrapping_add(1).wrapping_mul(SPREAD);
     spread ^ (spread >> 32)
 }
 
 impl Crew {
-    /// So many workers, of which none has begun.
+    /// A crew of `workers` workers, of which none has begun.
     pub(crate) fn new(workers: u64) -> Crew {
         Crew {
             workers,
@@ -69,9 +69,9 @@ impl Crew {
         self.workers < 2
     }
 
-    /// How many instructions a burst has, at most so many, where there may be so many turns more: its worker's share of those that aren't promised to
-    /// bursts that run, or few, so that the last bursts of all workers can be committed. They are promised to it. More than there was room for would be
-    /// run in vain.
+    /// How many instructions a burst has, at most `most`, where there may be `left` turns more: its worker's share of those that aren't promised to
+    /// bursts that run, or few, so that the last bursts of all workers can be committed. They are promised to it. More than there was room for would
+    /// be run in vain.
     pub(crate) fn promise(&self, left: u64, most: u64) -> u64 {
         let free = left.saturating_sub(self.promised.load(Ordering::SeqCst));
         let share = free / self.workers.max(1);
@@ -80,12 +80,12 @@ impl Crew {
         promised
     }
 
-    /// A burst to which so many turns were promised is over.
+    /// Ends a burst to which `promised` turns were promised.
     pub(crate) fn release(&self, promised: u64) {
         self.promised.fetch_sub(promised, Ordering::SeqCst);
     }
 
-    /// A worker begins, with all others: it looks for them for a while, and goes on without those who don't come.
+    /// A worker begins, with all others: it looks for them for a while, and goes on without those that don't come.
     pub(crate) fn meet(&self) {
         self.begun.fetch_add(1, Ordering::SeqCst);
         for _look in 0..LOOKS {
@@ -97,8 +97,8 @@ impl Crew {
         }
     }
 
-    /// Stirs the noise until others were seen to stir it at the same time, so often that nobody foresees what it is. New threads may begin on one
-    /// core, where each goes on for long before another does, and the same order comes again and again: workers that have met have a core each.
+    /// Spins on the shared counter until it has seen enough concurrent writes for its value to be unpredictable. New threads may begin on one core,
+    /// where each goes on for long before another does, and the same order comes again and again: workers that have met have a core each.
     pub(crate) fn mingle(&self) {
         if self.is_lone() {
             return;
@@ -116,7 +116,7 @@ impl Crew {
         }
     }
 
-    /// A number that nobody foresees. It is the noise, stirred.
+    /// An unpredictable number: the noise, stirred.
     fn draw(&self) -> u64 {
         let drawn = stirred(self.noise.load(Ordering::SeqCst));
         self.noise.store(drawn, Ordering::SeqCst);
@@ -128,9 +128,9 @@ impl Crew {
         PACES[(self.draw() >> 32) as usize % PACES.len()]
     }
 
-    /// How many turns a worker takes in its next use of the kernel at most, where so many turns were seen: few in the beginning, so that short runs
-    /// come in many orders, and later now and then, so that at any place another worker may go on. Nobody foresees how many. Now and then the worker
-    /// also yields.
+    /// How many turns a worker takes in its next use of the kernel at most, where it has seen `seen` turns: few in the beginning, so that short runs
+    /// come in many orders, and later now and then, so that at any place another worker may go on. The number is unpredictable. Now and then the
+    /// worker also yields.
     pub(crate) fn portion(&self, seen: u64) -> u64 {
         if self.is_lone() {
             return MOST_AT_ONCE;
@@ -168,8 +168,8 @@ impl Crew {
         self.resting.load(Ordering::SeqCst) >= self.workers
     }
 
-    /// A pause of a worker that isn't alone: nobody foresees how long, but it is less than so many looks at nothing. It tells how many they were. Now
-    /// and then the worker also yields, so that another can go on where they share a core.
+    /// Pauses a worker that isn't alone for a random number of looks below `longest`, and returns that number. Now and then the worker also yields,
+    /// so that another can go on where they share a core.
     pub(crate) fn pause(&self, longest: u64) -> u64 {
         if self.is_lone() {
             return 0;

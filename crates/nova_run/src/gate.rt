@@ -10,11 +10,11 @@ use std::sync::Wait;
 pub trait Gate {
     ghost use Rattle.std.specs.Prelude.{ℕ};
 
-    /// That it was called for a step: of this processor, after so many turns of it. A gate need not say what that means; to workers, who know no
+    /// That it was called for a step of the processor `cpu`, after `turn` turns of it. A gate need not say what that means; to workers, which know no
     /// gate, nothing but its call says it.
     ghost called: { Self → ℕ → ℕ → Type 0 } = { λ _ _ _. Unit {0} };
 
-    /// A worker is about to take a step: of this processor, after so many turns of it.
+    /// A worker is about to take a step of the processor `cpu`, after `turn` turns of it.
     fn at(&self, cpu: u32, turn: u64)
         ensures { called self.now cpu turn };
 }
@@ -27,14 +27,14 @@ impl Gate for Open {
     fn at(&self, _cpu: u32, _turn: u64) {}
 }
 
-/// Calls a gate for the next step of the processor of a seat.
+/// Calls a gate for the next step of the processor of `seat`.
 pub(crate) fn call<G: Gate>(gate: &G, seat: &CpuSeat)
     ensures called { G.called gate.now seat.now.number (mine seat.now) }
 {
     gate.at(seat.cpu(), seat.mine());
 }
 
-/// Turns of the processor of a seat in one use of the kernel, for which the gate was called: at most so many.
+/// Takes at most `most` turns of the processor of `seat` in one use of the kernel, for which `gate` was called.
 pub(crate) fn take<R: Wait, G: Gate>(
     rt: &R,
     shared: &Shared,
@@ -49,7 +49,7 @@ pub(crate) fn take<R: Wait, G: Gate>(
     shared.turns(rt, seat, most)
 }
 
-/// A turn of the processor of a seat, for which the gate was called.
+/// A turn of the processor of `seat`, for which the gate was called.
 pub(crate) fn take_one<R: Wait, G: Gate>(
     rt: &R,
     shared: &Shared,

@@ -3,18 +3,18 @@ ghost use Rattle.std.specs.List.{AllByRecursion};
 ghost use Rattle.law_turns.specs.Orders.{IsRunOut};
 ghost use Rattle.nova_lock.specs.Seats.{SeatView};
 ghost use Rattle.nova_order.specs.Blocks.{turns};
-ghost use Rattle.nova_shared.specs.declared.fault.RunFault.TheVariants.{Memory};
-ghost use Rattle.nova_run.specs.Finished.{IsFinished, IsFreeOfIdle};
-ghost use Rattle.nova_run.specs.UnderWay.{IsReady};
+ghost use Rattle.nova_finished.specs.declared.fault.RunFault.TheVariants.{Memory};
+ghost use Rattle.nova_rounds.specs.Finished.{IsFinished, IsFreeOfIdle};
+ghost use Rattle.nova_rounds.specs.UnderWay.{IsReady};
 ghost use Rattle.nova_shared.specs.Ran.{Ran, IsCpuSeat, AreCpuSeats};
 
 use crate::bursts::burst;
 use crate::crew::Crew;
 use crate::gate::{Gate, call, take, take_one};
-use crate::rounds::run_all;
-use crate::turns::{kept, let_go};
+use nova_finished::{Finished, RunFault, let_go};
 use nova_kernel::Kernel;
-use nova_shared::{CpuSeat, Finished, RunFault, Shared, SharedTurn};
+use nova_rounds::{kept, run_all};
+use nova_shared::{CpuSeat, Shared, SharedTurn};
 use std::alloc::Global;
 use std::sync::Wait;
 use std::thread;
@@ -56,8 +56,8 @@ struct Taken {
     by_burst: bool,
 }
 
-/// One step of a worker: a burst, or where that came to nothing a turn, and after a plain step those that come next. It tells how many turns were taken;
-/// none where the processor is idle, there are as many turns as there may be, or memory is refused.
+/// Takes one step of a worker: a burst, or where that came to nothing a turn, and after a plain step those that come next. It tells how many turns
+/// were taken; none where the processor is idle, there are as many turns as there may be, or memory is refused.
 fn step<R: Wait, G: Gate>(
     rt: &R,
     alloc: Global,
@@ -89,7 +89,7 @@ fn step<R: Wait, G: Gate>(
     })
 }
 
-/// Another look at a processor that was idle: whether it took a turn; or none where it is not to be looked at again.
+/// Looks again at a processor that was idle, and says whether it took a turn; or none where it is not to be looked at again.
 fn look<R: Wait, G: Gate>(rt: &R, shared: &Shared, gate: &G, seat: &mut CpuSeat) -> Option<bool>
     requires { IsCpuSeat shared.now seat.old }
     ensures { seat.new ≡ record seat.old { front = seat.new.front } }
@@ -102,8 +102,8 @@ fn look<R: Wait, G: Gate>(rt: &R, shared: &Shared, gate: &G, seat: &mut CpuSeat)
     }
 }
 
-/// Looks again and again at an idle processor, with pauses that grow, while other workers of the round have something to do and the round isn't over;
-/// and whether it took a turn at last.
+/// Looks again and again at an idle processor, with pauses that grow, while other workers of the round have something to do and the round isn't over.
+/// It says whether it took a turn at last.
 fn wake<R: Wait, G: Gate>(
     rt: &R,
     shared: &Shared,
@@ -127,8 +127,8 @@ fn wake<R: Wait, G: Gate>(
     false
 }
 
-/// A step of a worker, or where its processor is idle the turn that wakes it at last. It tells how many turns were taken, none where the worker ends, as
-/// it does where the round is over.
+/// Takes a step of a worker, or where its processor is idle the turn that wakes it at last. It tells how many turns were taken, none where the worker
+/// ends, as it does where the round is over.
 fn go<R: Wait, G: Gate>(
     rt: &R,
     alloc: Global,
@@ -161,7 +161,8 @@ fn go<R: Wait, G: Gate>(
     })
 }
 
-/// How many instructions the next burst has at most, after a step: `GROWTH` times as many, up to the turns of the round, where that was a burst.
+/// How many instructions the next burst has at most, after the step `taken`: `GROWTH` times `most`, up to `turns`, those of the round, where it was a
+/// burst.
 fn longer(most: u64, taken: Taken, turns: u64) -> u64 {
     if taken.by_burst {
         most.saturating_mul(GROWTH).min(turns)
@@ -171,7 +172,7 @@ fn longer(most: u64, taken: Taken, turns: u64) -> u64 {
 }
 
 /// One worker's steps in a round, once all others have begun: until its processor is idle and no other worker has anything to do, there are as many
-/// turns as there may be, memory is refused, or a worker took so many turns.
+/// turns as there may be, memory is refused, or a worker took `turns` turns.
 fn work<R: Wait, G: Gate>(
     rt: &R,
     alloc: Global,
@@ -212,7 +213,7 @@ fn work<R: Wait, G: Gate>(
     crew.rest();
 }
 
-/// A round: each processor has a worker, in a thread of its own, until one of them took so many turns, with those of its last step.
+/// A round: each processor has a worker, in a thread of its own, until one of them took `turns` turns, with those of its last step.
 fn round<R: Threads + Wait + Sync, G: Gate + Sync>(
     rt: &R,
     alloc: Global,
@@ -237,8 +238,8 @@ fn round<R: Threads + Wait + Sync, G: Gate + Sync>(
     );
 }
 
-/// A sweep: one turn of each processor in rising number, where it is not idle; and whether another round follows. It does not where no turn was
-/// taken, where there are as many as there may be, or where memory was refused.
+/// Takes a sweep, one turn of each processor in rising number where it is not idle, and says whether another round follows. It does not where no turn
+/// was taken, where there are as many as there may be, or where memory was refused.
 fn sweep<R: Wait>(rt: &R, shared: &Shared, seats: &mut [CpuSeat]) -> bool
     requires own { All (λ s. IsCpuSeat shared.now s) seats.old }
     ensures len { length seats.new ≡ length seats.old }
@@ -255,7 +256,7 @@ fn sweep<R: Wait>(rt: &R, shared: &Shared, seats: &mut [CpuSeat]) -> bool
     taken
 }
 
-/// A sweep, and a round after it unless it was the last; and whether another sweep follows.
+/// Takes a sweep, and a round after it unless it was the last, and says whether another sweep follows.
 #[tactic(auto, using(crate::proofs::Seated::each_there, crate::proofs::Seated::still_seats))]
 fn go_on<R: Threads + Wait + Sync, G: Gate + Sync>(
     rt: &R,
@@ -275,7 +276,7 @@ fn go_on<R: Threads + Wait + Sync, G: Gate + Sync>(
     true
 }
 
-/// Sweeps and rounds until a sweep was the last, but at most `limit + 1` sweeps.
+/// Takes sweeps and rounds until a sweep was the last, but at most `limit + 1` sweeps.
 fn work_together<R: Threads + Wait + Sync, G: Gate + Sync>(
     rt: &R,
     alloc: Global,
@@ -297,7 +298,7 @@ fn work_together<R: Threads + Wait + Sync, G: Gate + Sync>(
     }
 }
 
-/// What the workers make of a kernel. The only error is `Memory`, where memory is refused. It may wait.
+/// What the workers make of `kernel`. The only error is `Memory`, where memory is refused. It may wait.
 fn share<R: Threads + Wait + Sync, G: Gate + Sync>(
     rt: &R,
     alloc: Global,
@@ -316,8 +317,8 @@ fn share<R: Threads + Wait + Sync, G: Gate + Sync>(
 {
     let (shared, mut seats) = match Shared::new(alloc, kernel, limit) {
         Ok(made) => made,
-        Err(refused) => {
-            let_go(refused);
+        Err((kernel, _)) => {
+            let_go(kernel);
             return Err(RunFault::Memory);
         }
     };
@@ -325,14 +326,14 @@ fn share<R: Threads + Wait + Sync, G: Gate + Sync>(
     Ok(shared.finish(seats))
 }
 
-/// Runs a kernel with a thread for each of its processors, of which there is one or more, for at most `limit` turns; the kernel has room in its log
-/// for as many. In turn come sweeps, in which each processor has a turn that is not idle, and rounds, until a sweep takes no turn or there are
-/// `limit` turns. The workers of a round begin together. Each takes steps until one of them took 4,096 turns, in later rounds 4,194,304; while its
-/// processor is idle it looks again and again, some thousand times at most, until no other worker has anything to do. A step is a burst where a
-/// virtual CPU acts, can be leased, and has 256 turns of its quantum left, or 4,096 where there is one worker: instructions up to the end of its
-/// quantum, and no more than its worker's share of the turns that may follow and are promised to no other burst. They run on copies of up to 16 frames
-/// beside the other processors, and then count as so many turns. Else, and where a burst comes to nothing, it is one turn, and after a plain step up
-/// to 4,095 plain steps that come next; where there are several workers, nobody foresees how many, few in the beginning. Before each step and each look
+/// Runs `kernel` with a thread for each of its processors, of which there is one or more, for at most `limit` turns. The kernel has room in its log
+/// for as many. Sweeps (one turn of each processor that is not idle) alternate with rounds, until a sweep takes no turn or there are `limit` turns.
+/// The workers of a round begin together. Each takes steps until one of them took 4,096 turns, in later rounds 4,194,304; while its processor is idle
+/// it looks again and again, some thousand times at most, until no other worker has anything to do. A step is a burst where a virtual CPU acts, can
+/// be leased, and has 256 turns of its quantum left, or 4,096 where there is one worker: instructions up to the end of its quantum, and no more than
+/// its worker's share of the turns that may follow and are promised to no other burst. They run on copies of up to 16 frames beside the other
+/// processors, and then count as that many turns. Otherwise, or if the burst commits nothing, a step is one turn; a plain step is followed by up to
+/// 4,095 plain steps that come next, where there are several workers an unpredictable number, few in the beginning. Before each step and each look
 /// the worker calls the gate, with the processor and how many turns of it there were.
 ///
 /// Whatever the workers did, there is one order of turns, and what comes is the run over it. It ends quiet or has `limit` turns. The only error is

@@ -27,14 +27,14 @@ entries_most n (x ∷ xs) = let r = entries_most n xs in grind (arith, r)
 pub stepped_mine : (n : ℕ) (old found : List ℕ) → IsFrontOf n old found → entries n (found ++ n ∷ []) ≡ entries n old + 1
 stepped_mine n old found f = entries_snoc n found ∙ ap (λ (m : ℕ). m + 1) (sym f.whole)
 
--- so many turns more of the seat's own
+-- `k` turns more of the seat's own
 pub block_mine : (n k : ℕ) (old found : List ℕ) → IsFrontOf n old found → entries n (found ++ replicate k n) ≡ entries n old + k
 block_mine n k old found f = entries_block n k found ∙ ap (λ (m : ℕ). m + k) (sym f.whole)
 
 pub mine_most : (n : ℕ) (old found : List ℕ) → IsFrontOf n old found → entries n old ≤ length found
 mine_most n old found f = omega (arith, f.whole, entries_most n found)
 
--- what a seat counts, after so many turns more of its own behind those that were found
+-- what a seat counts, after `count` turns more of its own behind those that were found
 module _ (n seen mine count : ℕ) (old found new : List ℕ) (front : IsFrontOf n old found) (left : new ≡ found ++ replicate count n) (saw : seen ≡ length found + count) (own : mine ≡ entries n old) where
   pub mine_fits : mine + count ≤ seen
   mine_fits = let most = mine_most n old found front in omega arith

@@ -1,5 +1,5 @@
 -- Turns of a run that is shared.
-use Rattle.std.proofs.Common.{◌≡◌, ◌≢◌, ℕ, ◌+◌, ◌-◌, ◌<◌, ◌≤◌, ◌^◌, List, [], ◌∷◌, ◌++◌, length, refl, ap, ap₂, sym, ◌∙◌, subst, arith}
+use Rattle.std.proofs.Common.{◌≡◌, ◌≢◌, ℕ, ◌+◌, ◌-◌, ◌<◌, ◌≤◌, List, [], ◌∷◌, ◌++◌, length, refl, ap, ap₂, sym, ◌∙◌, subst, arith}
 use Rattle.std.specs.Prelude.{replicate, Bool, true, false, is_some, None, if◌then◌else◌, Option, Some}
 use Rattle.std.proofs.lemmas.List.{append-nil, length-replicate}
 use Rattle.nova_kernel.specs.Views.{KernelView, IsMaking}
@@ -7,16 +7,15 @@ use Rattle.nova_model.specs.State.{KernelState}
 use Rattle.nova_model.specs.Turn.{turn, Step}
 use Rattle.nova_model.specs.Runs.{IsFreeOfIdle, run, trace}
 use Rattle.law_turns.proofs.Processors.{run_cpus}
-use Rattle.nova_order.specs.Blocks.{turns, total}
-use Rattle.nova_order.specs.declared.block.Block.{Block}
+use Rattle.nova_order.specs.Blocks.{turns}
 use Rattle.nova_order.proofs.BlockLemmas.{length_turns}
 use Rattle.law_turns.proofs.Passes.{free_append}
-use Rattle.nova_shared.specs.Runs.{IsSharedRun}
+use Rattle.nova_finished.specs.Runs.{IsSharedRun}
 use Rattle.nova_shared.specs.Told.{IsTold, IsRefused}
-use Rattle.nova_shared.specs.UnderWay.{HasRoom, Passed, left, taken}
-use Rattle.nova_shared.specs.declared.finished.Finished.{Finished}
+use Rattle.nova_finished.specs.UnderWay.{HasRoom, Passed, left, taken}
+use Rattle.nova_finished.specs.declared.finished.Finished.{Finished}
 use Rattle.nova_shared.specs.declared.turn.SharedTurn.TheVariants.{Stepped, Idle, AtLimit}
-use Rattle.nova_shared.proofs.Passing.{run_on, trace_on}
+use Rattle.nova_finished.proofs.Passing.{run_on, trace_on}
 
 -- the turn of a processor that is not idle is no idle one
 pub free_taken : (k : KernelState) (cpu : ℕ) → IsFreeOfIdle k (taken k cpu)
@@ -59,7 +58,7 @@ module _ (f g : Finished) (cpu : ℕ) (was : IsSharedRun f) where
         room = room;
       }
 
-  -- how many turns there are after so many more
+  -- how many turns there are after `n` more
   pub seen_more : (m n : ℕ) → m ≡ length g.trace.items → Passed f (replicate n cpu) g → (m ≡ length (turns f.order.blocks) + n) × (m ≤ f.limit)
   seen_more m n is passed =
       let count = passed.count in let within = passed.ready.within in let limit = passed.limit in
@@ -111,21 +110,3 @@ module _ (f g : Finished) (cpu : ℕ) (was : IsSharedRun f) where
   -- the processor is there
   pub there_on : cpu < f.opening.state.cpus → cpu < f.kernel.state.cpus
   there_on less = let same = ap (λ (s : KernelState). s.cpus) was.kernel ∙ run_cpus f.opening.state (turns f.order.blocks) in omega arith
-
--- no turns
-pub turns_none : (blocks : List Block) → blocks ≡ [] → turns blocks ≡ []
-unfolding turns
-turns_none blocks none = ap turns none
-
--- a run that took no turn
-pub shared_none : (f : Finished) → f.opening.state ≡ f.kernel.state → f.order.blocks ≡ [] → f.trace.items ≡ [] → f.limit ≤ f.kernel.room → f.kernel.state.turns + f.limit ≤ 2 ^ 31
-    → f.limit ≤ f.order.spare → f.limit ≤ f.trace.capacity → IsSharedRun f
-shared_none f opening blocks events room few places capacity =
-    let none : turns f.order.blocks ≡ [] = turns_none f.order.blocks blocks in
-    let long : length f.trace.items ≡ 0 = ap length events in record {
-      kernel = sym opening ∙ ap (λ (l : List ℕ). run f.opening.state l) (sym none);
-      trace = events ∙ ap (λ (l : List ℕ). trace f.opening.state l) (sym none);
-      no_idle = subst (IsFreeOfIdle f.opening.state) (sym none) tt;
-      ready = record { within = omega arith; room = omega arith; turns = omega arith; order = ap total blocks ∙ sym long };
-      room = record { order = omega arith; trace = capacity };
-    }

@@ -28,6 +28,6 @@ Learns old new (AtLimit n) = (seen old ≤ n) × (seen new ≡ n) × (mine new �
 abbrev pub LearnsOfOthers : SeatView Ran → SeatView Ran → Type 0
 LearnsOfOthers old new = (seen old ≤ seen new) × (mine new ≡ mine old)
 
--- what it knows after so many turns of its processor, one after another
+-- what it knows after `count` turns of its processor, one after another
 abbrev pub LearnsOfBlock : SeatView Ran → SeatView Ran → ℕ → Type 0
 LearnsOfBlock old new count = (seen old + count ≤ seen new) × (mine new ≡ mine old + count)

@@ -5,6 +5,7 @@ use Rattle.nova_kernel.specs.Views.{IsMaking}
 use Rattle.nova_model.specs.State.{KernelState}
 use Rattle.nova_model.specs.Turn.{turn}
 use Rattle.nova_model.specs.Runs.{run}
+pub use Rattle.nova_finished.specs.UnderWay.{HasNone}
 use Rattle.nova_shared.specs.declared.turn.SharedTurn.{SharedTurn}
 use Rattle.nova_shared.specs.declared.turn.SharedTurn.TheVariants.{Stepped, Idle, AtLimit}
 
@@ -12,10 +13,6 @@ abbrev pub IsTold : KernelState → ℕ → ℕ → List ℕ → List ℕ → Sh
 IsTold k most cpu found left (Stepped n) = (left ≡ found ++ cpu ∷ []) × (n ≡ length found + 1) × (n ≤ most) × IsSome (turn (run k found) cpu)
 IsTold k most cpu found left (Idle n) = (left ≡ found) × (n ≡ length found) × (n < most) × (turn (run k found) cpu ≡ None)
 IsTold k most cpu found left (AtLimit n) = (left ≡ found) × (n ≡ length found) × (n ≡ most)
-
--- where no turn was taken though there may be so many, the processor is idle, or memory was refused to a turn that makes an object or a derivation
-abbrev pub HasNone : KernelState → ℕ → ℕ → Type 0
-HasNone k left cpu = 0 < left → IsSome (turn k cpu) → IsMaking k cpu
 
 -- memory was refused to a turn that makes an object or a derivation
 abbrev pub IsRefused : KernelState → ℕ → ℕ → List ℕ → List ℕ → Type 0

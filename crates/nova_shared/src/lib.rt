@@ -2,14 +2,10 @@
 #![tactic(auto)]
 
 mod block;
-mod fault;
-mod finished;
 mod shared;
 mod shared_run;
 mod turn;
 
-pub use block::Block;
-pub use fault::RunFault;
-pub use finished::Finished;
+pub use nova_finished::{Block, Finished};
 pub use shared::{CpuSeat, Shared};
 pub use turn::SharedTurn;

@@ -5,16 +5,16 @@ ghost use Rattle.nova_lock.specs.History.{Adds, entries, IsFrontOf};
 ghost use Rattle.nova_lock.specs.Seats.{SeatView};
 ghost use Rattle.nova_model.specs.Runs.{IsFreeOfIdle, run};
 ghost use Rattle.nova_order.specs.Blocks.{turns};
-ghost use Rattle.nova_shared.specs.Finished.{IsFinished};
+ghost use Rattle.nova_finished.specs.Finished.{IsFinished};
 ghost use Rattle.nova_shared.specs.Ran.{Ran, IsCpuSeat, AreCpuSeats};
 ghost use Rattle.nova_shared.specs.Seen.{Learns, LearnsOfBlock, LearnsOfOthers, mine};
 ghost use Rattle.nova_shared.specs.Told.{HasNone, IsTold, IsRefused};
-ghost use Rattle.nova_shared.specs.UnderWay.{IsReady, HasRoom};
+ghost use Rattle.nova_finished.specs.UnderWay.{IsReady, HasRoom};
 
-use crate::block::{Block, BlockDone, Blocking};
-use crate::finished::Finished;
+use crate::block::{BlockDone, Blocking};
 use crate::shared_run::SharedRun;
 use crate::turn::{OneTurn, SharedTurn, Turns};
+use nova_finished::{Block, Finished};
 use nova_kernel::Kernel;
 use nova_lock::{HistoryLock, Seat};
 use std::alloc::{AllocError, Global};
@@ -61,7 +61,7 @@ impl CpuSeat {
         }
     }
 
-    /// Its processor.
+    /// The processor of the seat.
     pub fn cpu(&self) -> u32
         ensures { result ≡ self.now.number }
     {
@@ -75,7 +75,7 @@ impl CpuSeat {
         self.seen
     }
 
-    /// How many turns of its processor there were.
+    /// How many turns of the seat's processor there were.
     pub fn mine(&self) -> u64
         ensures { result ≡ entries self.now.number self.now.front }
     {
@@ -83,7 +83,7 @@ impl CpuSeat {
     }
 }
 
-/// Adds the seat of a processor, in the room of a list.
+/// Adds the processor's seat that holds `seat`, in the room of `out`.
 fn add(out: &mut Vec<CpuSeat>, seat: Seat<SharedRun>, spare: Vec<Seat<SharedRun>>)
     requires room { vec_len out.old < vec_capacity out.old }
     requires front { seat.front ≡ [] }
@@ -97,7 +97,7 @@ fn add(out: &mut Vec<CpuSeat>, seat: Seat<SharedRun>, spare: Vec<Seat<SharedRun>
     };
 }
 
-/// The seats of processors, in the room of a list. The first keeps the room in which all are handed back.
+/// The processors' seats that hold `seats`, in the room of `out`. The first keeps the room in which all are handed back.
 fn wrapped(
     alloc: Global,
     mut seats: Vec<Seat<SharedRun>>,
@@ -165,9 +165,9 @@ impl Model for Shared {
 }
 
 impl Shared {
-    /// Shares a kernel among its processors, of which there is one or more, for at most `limit` turns. The seats are in the order of their
-    /// processors. The kernel has room in its log for so many turns; room for their order and events is made here. Where memory runs out,
-    /// it gives the kernel back.
+    /// Shares `kernel` among its processors, of which there is one or more, for at most `limit` turns. The seats are in the order of their
+    /// processors. The kernel has room in its log for as many turns; room for their order and events is made here. Where memory runs out, it gives
+    /// the kernel back.
     pub fn new(
         alloc: Global,
         kernel: Kernel,
@@ -198,7 +198,7 @@ impl Shared {
         }
     }
 
-    /// One use of the lock, in which the processor of a seat takes a turn.
+    /// One use of the lock, in which the processor of `seat` takes a turn.
     fn take(&self, rt: &impl Wait, seat: &mut Seat<SharedRun>) -> Result<SharedTurn, u64>
         requires own { IsCpuSeat self.now seat.old }
         ensures seat { seat.new ≡ record seat.old { front = seat.new.front } }
@@ -213,9 +213,10 @@ impl Shared {
         self.lock.with(rt, seat, &mut call)
     }
 
-    /// One turn of the processor of a seat, where it is not idle and there are fewer turns of all processors than there may be. The order of turns that
-    /// it finds begins with the seat's front and has all turns that the seat ever took; the order that it leaves is the seat's new front. Memory can
-    /// run out only in a turn that makes an object or a derivation. It may wait for other processors; what it promises holds if it returns.
+    /// Takes a turn of the processor of `seat`, where it is not idle and there are fewer turns of all processors than there may be. The order of
+    /// turns that it finds begins with the seat's front and has all turns that the seat ever took; the order that it leaves is the seat's new front.
+    /// Memory can run out only in a turn that makes an object or a derivation. It may wait for other processors; what it promises holds if it
+    /// returns.
     #[tactic(auto, using(crate::proofs::Seats::stepped_mine, crate::proofs::Seats::mine_most))]
     pub fn turn(&self, rt: &impl Wait, seat: &mut CpuSeat) -> Result<SharedTurn, AllocError>
         requires own { IsCpuSeat self.now seat.old }
@@ -244,7 +245,7 @@ impl Shared {
         Ok(told)
     }
 
-    /// One use of the lock, in which a block is done on the processor of a seat.
+    /// One use of the lock, in which a block is done on the processor of `seat`.
     fn act<B: Block>(&self, rt: &impl Wait, seat: &mut Seat<SharedRun>, call: &mut B) -> BlockDone
         requires own { IsCpuSeat self.now seat.old }
         requires fits { (h : List ℕ) → IsPrefix seat.old.front h → B.fits call.old seat.old.number (run self.now.opened.opening.kernel.state h) }
@@ -261,10 +262,10 @@ impl Shared {
         self.lock.with(rt, seat, &mut blocking)
     }
 
-    /// A block of turns of the processor of a seat, in one use of the lock: the block takes as many as it likes, where it finds room for them, and
-    /// what comes is how many. It may be done on the processor after each order of turns that begins with the seat's front. The order of turns
-    /// that it finds begins with the seat's front and has all turns that the seat ever took. The block may take as many turns as there may be
-    /// after those of that order. The order that it leaves has these turns more, and is the seat's new front.
+    /// Does `call`, a block of turns of the processor of `seat`, in one use of the lock. The block takes as many turns as it likes, where it finds
+    /// room for them, and their number is returned. It may be done on the processor after each order of turns that begins with the seat's front. The
+    /// order of turns that it finds begins with the seat's front and has all turns that the seat ever took. The block may take as many turns as there
+    /// may be after those of that order. The order that it leaves has these turns more, and is the seat's new front.
     ///
     /// It may wait for other processors; what it promises holds if it returns. It takes no memory but what the block takes.
     pub fn block<B: Block>(&self, rt: &impl Wait, seat: &mut CpuSeat, call: &mut B) -> u64
@@ -282,7 +283,7 @@ impl Shared {
         done.taken
     }
 
-    /// One use of the lock, in which the processor of a seat takes turns, at most so many.
+    /// One use of the lock, in which the processor of `seat` takes at most `most` turns.
     fn go(&self, rt: &impl Wait, seat: &mut Seat<SharedRun>, most: u64) -> BlockDone
         requires own { IsCpuSeat self.now seat.old }
         ensures seat { seat.new ≡ record seat.old { front = seat.new.front } }
@@ -299,9 +300,10 @@ impl Shared {
         self.lock.with(rt, seat, &mut call)
     }
 
-    /// Turns of the processor of a seat in one use of the lock, at most so many, and how many they are: one, and after a plain step the plain steps that
-    /// come next. Where there may be one, none is taken only where the processor is idle or memory is refused. The order of turns that it finds begins
-    /// with the seat's front and has all turns that the seat ever took. The order that it leaves has these turns more, and is the seat's new front.
+    /// Takes at most `most` turns of the processor of `seat` in one use of the lock, and returns how many. That is one, and after a plain step the
+    /// plain steps that come next. Where there may be a turn, none is taken only where the processor is idle or memory is refused. The order of turns
+    /// that it finds begins with the seat's front and has all turns that the seat ever took. The order that it leaves has these turns more, and is
+    /// the seat's new front.
     ///
     /// It may wait for other processors; what it promises holds if it returns.
     pub fn turns(&self, rt: &impl Wait, seat: &mut CpuSeat, most: u64) -> u64
@@ -319,9 +321,8 @@ impl Shared {
         done.taken
     }
 
-    /// The run that the seats came to, from all seats of this kernel in the order of their processors. Each seat's front begins the order of turns, which
-    /// has no more turns of its processor. Order, trace and console log have room for the turns up to `limit`. It takes no memory and waits for
-    /// nobody.
+    /// The run that `seats` came to, all seats of this kernel in the order of their processors. Each seat's front begins the order of turns, which
+    /// has no more turns of its processor. Order, trace and console log have room for the turns up to `limit`. It takes no memory and doesn't wait.
     pub fn finish(self, seats: Vec<CpuSeat>) -> Finished
         requires seats { AreCpuSeats self seats.items }
         ensures finished { IsFinished self.opened.opening.kernel.state (turns result.order.blocks) self.opened.opening.limit result }

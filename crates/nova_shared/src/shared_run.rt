@@ -1,12 +1,12 @@
 ghost use Rattle.std.specs.Prelude.{◌≡◌, ◌+◌, ◌-◌, ◌%◌, ◌^◌, ◌<◌, ◌≤◌, ◌++◌, [], length, replicate, IfOk, IfErr};
 ghost use Rattle.nova_model.specs.Runs.{run};
 ghost use Rattle.nova_order.specs.Blocks.{turns};
-ghost use Rattle.nova_shared.specs.Runs.{IsSharedRun};
+ghost use Rattle.nova_finished.specs.Runs.{IsSharedRun};
 ghost use Rattle.nova_shared.specs.Told.{HasNone, IsTold, IsRefused};
 
-use crate::block::{Block, BlockDone};
-use crate::finished::Finished;
+use crate::block::BlockDone;
 use crate::turn::SharedTurn;
+use nova_finished::{Block, Finished, let_go};
 use nova_kernel::Kernel;
 use nova_lock::Historied;
 use std::marker::Model;
@@ -31,7 +31,7 @@ pub struct Opening {
 impl Model for SharedRun {
     ghost use Rattle.nova_order.specs.Blocks.{turns};
     ghost use Rattle.nova_shared.specs.Ran.{Ran};
-    ghost use Rattle.nova_shared.specs.Runs.{IsSharedRun};
+    ghost use Rattle.nova_finished.specs.Runs.{IsSharedRun};
 
     ghost Value = { Ran };
 
@@ -63,7 +63,7 @@ impl SharedRun {
         SharedRun { run, uses: 0 }
     }
 
-    /// One turn of a processor, or what it found instead. Where memory is refused it tells how many turns were taken.
+    /// One turn of the processor `cpu`, or what it found instead. Where memory is refused it tells how many turns were taken.
     pub(crate) fn turn(&mut self, cpu: u32) -> Result<SharedTurn, u64>
         requires cpu { cpu < self.old.opening.kernel.state.cpus }
         ensures same { (self.new.opening ≡ self.old.opening) × (self.new.uses ≡ self.old.uses) }
@@ -83,7 +83,7 @@ impl SharedRun {
         Ok(SharedTurn::Stepped(taken + 1))
     }
 
-    /// So many turns of a processor as a block takes.
+    /// Takes as many turns of the processor `cpu` as `call`, a block, takes.
     pub(crate) fn block<B: Block>(&mut self, cpu: u32, call: &mut B) -> BlockDone
         requires cpu { cpu < self.old.opening.kernel.state.cpus }
         requires fits { B.fits call.old cpu (run self.old.opening.kernel.state self.old.order) }
@@ -99,8 +99,8 @@ impl SharedRun {
         }
     }
 
-    /// A turn of a processor, and after a plain step those that come next: at most so many. Where there may be one, none is taken only where the
-    /// processor is idle or memory is refused.
+    /// Takes a turn of the processor `cpu`, and after a plain step those that come next: at most `most`. Where there may be a turn, none is taken
+    /// only where the processor is idle or memory is refused.
     pub(crate) fn turns(&mut self, cpu: u32, most: u64) -> BlockDone
         requires cpu { cpu < self.old.opening.kernel.state.cpus }
         ensures same { (self.new.opening ≡ self.old.opening) × (self.new.uses ≡ self.old.uses) }
@@ -128,7 +128,15 @@ impl SharedRun {
     pub(crate) fn into_kernel(self) -> Kernel
         ensures { result ≡ self.kernel }
     {
-        self.into_run().kernel
+        let Finished {
+            opening,
+            kernel,
+            order: _order,
+            trace: _trace,
+            limit: _,
+        } = self.into_run();
+        let_go(opening);
+        kernel
     }
 
     /// The run as it is.

@@ -11,10 +11,10 @@ pub enum SharedTurn {
     /// It was taken, and this is its place in the order of all turns, counted from 1.
     Stepped(u64),
 
-    /// The processor is idle, after so many turns of all processors.
+    /// The processor is idle, after this many turns of all processors.
     Idle(u64),
 
-    /// There were as many turns of all processors as there may be: so many.
+    /// The run is at its limit; holds the number of turns of all processors.
     AtLimit(u64),
 }
 
@@ -44,7 +44,7 @@ impl LockCall<SharedRun> for OneTurn {
     }
 }
 
-/// A use of the lock in which a processor takes a turn, and after a plain step those that come next: at most so many.
+/// A use of the lock in which a processor takes a turn, and after a plain step those that come next: at most `most`.
 #[derive(Clone, Copy)]
 pub struct Turns {
     pub cpu: u32,

@@ -1,14 +1,13 @@
 ghost use Rattle.std.specs.Prelude.{◌≡◌, ◌⊎◌, map, string_bytes, None, IfSome};
 ghost use Rattle.nova_command.specs.Command.{command, HasBounds};
-ghost use Rattle.nova_top.specs.Exit.{IsUnwritten};
-ghost use Rattle.nova_top.specs.Fetches.{Calls, HasFiles, AllOthersStay, OtherFetchesStay, appended_before};
-ghost use Rattle.nova_top.specs.Main.{IsAnswer};
+ghost use Rattle.nova_answers.specs.Exit.{IsUnwritten};
+ghost use Rattle.nova_answers.specs.Fetches.{Calls, HasFiles, AllOthersStay, OtherFetchesStay, appended_before};
+ghost use Rattle.nova_answers.specs.Main.{IsAnswer};
 ghost use Rattle.nova_io.specs.Outside.{depots, sinks};
-ghost use Rattle.nova_top.specs.Servable.{IsServable, IsDoneOrStopped};
+ghost use Rattle.nova_answers.specs.Servable.{IsServable, IsDoneOrStopped};
 
-use crate::exit::Exit;
 use crate::prepared::prepare;
-use crate::sending::send;
+use nova_answers::{Exit, send};
 use nova_command::{Command, read_command};
 use nova_io::{Depot, Sink};
 use nova_run::Gate;
@@ -16,7 +15,7 @@ use std::alloc::Global;
 use std::sync::Wait;
 use std::thread::Threads;
 
-/// Makes what a command makes, and sends it out.
+/// Makes what `command` asks for, and sends it out.
 fn serve<R: Threads + Wait + Sync, D: Depot, O: Sink, G: Gate + Sync>(
     rt: &R,
     alloc: Global,
@@ -46,17 +45,17 @@ fn serve<R: Threads + Wait + Sync, D: Depot, O: Sink, G: Gate + Sync>(
 /// `check SCENARIO`, `bench NUMBER` or `twin NAME`, with `--limit N` anywhere among them, from 1 to 10,000,000 turns, 1,000,000
 /// where it isn't given. NUMBER is from 1 to 90,000.
 ///
-/// `run` runs the scenario from its boot state with a thread for each processor. Whatever the threads did, there is one order of turns:
-/// its text is appended to ORDER, and the text that is written is the report of the run over it with its trace. `solo` runs the
-/// scenario over round robin of at most N turns, or over the order that was read from ORDER, and appends nothing. `bench` runs the
-/// scenario that `generated` gives, which is valid and of one processor, so that its order is round robin; it writes a line that
-/// sums the run up, and does nothing to the depot. None of a run's turns is idle, and it has at most N turns. Delegations are a sound forest after
-/// each part of it. Where the event of a turn answers SUCCESS to a revoke, the turn ends the one that its caller began in an earlier turn, of
-/// the range and with the flag that its registers had then, and has run ever since. Nothing of that revoke's scope is left: no derivation
-/// leads to what an ancestor of it, of the revoker's, leads to from a place of the range; nor, where the revoker's own go too, has the
-/// revoker one that lies in the range. From the turn that made it on each virtual CPU is a guest alone: its view at the end, its
-/// exits and the bytes that it stores to consoles are what its view then and its inputs since come to. The answer is Done exactly where the run ends quiet, and Limit exactly where it
-/// doesn't; it has then taken N turns, unless the order was read. `check` writes `ok` and answers Done.
+/// `run` runs the scenario from its boot state with a thread for each processor. Whatever the threads did, there is one order of turns: its text is
+/// appended to ORDER, and the text that is written is the report of the run over it with its trace. `solo` runs the scenario over round robin of at
+/// most N turns, or over the order that was read from ORDER, and appends nothing. `bench` runs the scenario that `generated` gives, which is valid
+/// and of one processor, so that its order is round robin; it writes a line that sums the run up, and does nothing to the depot. None of a run's
+/// turns is idle, and it has at most N turns. Delegations are a sound forest after each part of it. Where the event of a turn answers SUCCESS to a
+/// revoke, the turn ends the revoke that its caller began in an earlier turn, of the range and with the flag that its registers had then, and has run
+/// ever since. Nothing of that revoke's scope is left: no derivation leads to what an ancestor of it, of the revoker's, leads to from a place of the
+/// range; nor, where the revoker's own go too, has the revoker one that lies in the range. From the turn that made it on each virtual CPU is a guest
+/// alone: its view at the end, its exits and the bytes that it stores to consoles are what its view then and its inputs since come to. The answer is
+/// Done exactly where the run ends quiet, and Limit exactly where it doesn't; it has then taken N turns, unless the order was read. `check` writes
+/// `ok` and answers Done.
 ///
 /// `twin` fetches NAME, a text of two lines `SCENARIO ORDER GUEST`, runs the scenario of each over its order, of at most N turns, and follows
 /// the virtual CPU of that number from the turn that made it on. It writes one line, appends nothing, and answers Done: `equal I frames F`
@@ -78,11 +77,11 @@ fn serve<R: Threads + Wait + Sync, D: Depot, O: Sink, G: Gate + Sync>(
 ///
 /// With Done or Limit order and text are out whole. With WriteFault the order is, and a part of the text from its first byte on; or a part of the
 /// order is, from its first byte on, and the sink is as before; both are those of one run. Else nothing is appended, and the sink is as before.
-/// Writes of the text are all that is done to the sink, each of all that is left, and one that fails is the last.
-/// SCENARIO is fetched first, and the ORDER of `solo` only after a valid scenario; NAME before the scenario and the order of its first line, and these
-/// before those of the second, which are fetched only once the first guest is followed; each
-/// up to the fetch that failed where the answer is ReadFault; nothing else is fetched. Where the words
-/// are no command, the depot is as before. Its files stay but for what `run` appends to ORDER, and the counts of other names always stay.
+/// Writes of the text are all that is done to the sink, each of all that is left, and a write that fails is the last. SCENARIO is fetched first, and
+/// the ORDER of `solo` only after a valid scenario; NAME before the scenario and the order of its first line, and these before those of the second,
+/// which are fetched only once the first guest is followed; each up to the fetch that failed where the answer is ReadFault; nothing else is fetched.
+/// Where the words are no command, the depot is as before. Its files stay but for what `run` appends to ORDER, and the counts of other names always
+/// stay.
 ///
 /// `gate` is told of each step of the threads. With `run` and `bench` the call may wait; what it promises holds if it returns.
 pub fn nova_main<R: Threads + Wait + Sync, D: Depot, O: Sink, G: Gate + Sync>(

@@ -2,28 +2,24 @@ ghost use Rattle.std.specs.Prelude.{◌≡◌, ℕ, List, None, Some};
 ghost use Rattle.nova_command.specs.Command.{HasBounds};
 ghost use Rattle.nova_command.specs.Limit.{IsLimit, IsSize};
 ghost use Rattle.nova_io.specs.Faults.{Stay};
-ghost use Rattle.nova_top.specs.Fetches.{Fetches};
+ghost use Rattle.nova_answers.specs.Fetches.{Fetches};
 ghost use Rattle.nova_io.specs.Outside.{depots};
-ghost use Rattle.nova_top.specs.Prepared.{IsPrepared, exit_of};
+ghost use Rattle.nova_answers.specs.Prepared.{IsPrepared, exit_of};
 
-use crate::bench::bench_scenario;
-use crate::exit::Exit;
-use crate::fetched::{fetch_order, fetch_scenario};
-use crate::guests::twin;
-use crate::outcome::{
-    Outcome, run_alone, run_in_order, run_rounds, run_together, summed_up, valid,
-};
+use crate::runs::{run_alone, run_in_order, run_rounds, run_together};
+use nova_answers::{Exit, Outcome, bench_scenario, fetch_order, fetch_scenario, summed_up, valid};
 use nova_command::{Command, Name};
 use nova_gsi::{
     alarms_have_room, counters_tell_what_ended, firings_are_of_their_moments, sources_are_alarms,
 };
 use nova_io::Depot;
+use nova_pair::twin;
 use nova_run::Gate;
 use std::alloc::Global;
 use std::sync::Wait;
 use std::thread::Threads;
 
-/// `check`: fetches a scenario, and says that it is valid.
+/// Does `check`: fetches the scenario `name`, and says that it is valid.
 fn check<D: Depot>(alloc: Global, depot: &mut D, name: &Name) -> Result<Outcome, Exit>
     ensures prepared { IsPrepared (depots D.files D.gave D.fetch_failed D.fetch_faults D.took D.append_failed D.append_faults) (Command.Check name.now) depot.old depot.new result }
     ensures fetches { Fetches (depots D.files D.gave D.fetch_failed D.fetch_faults D.took D.append_failed D.append_faults) (Command.Check name.now) (exit_of result) depot.old depot.new }
@@ -34,7 +30,7 @@ fn check<D: Depot>(alloc: Global, depot: &mut D, name: &Name) -> Result<Outcome,
     Ok(valid(alloc)?)
 }
 
-/// `run`: fetches a scenario, and runs it with a thread for each processor.
+/// Does `run`: fetches the scenario `name`, and runs it with a thread for each processor.
 fn run<R: Threads + Wait + Sync, D: Depot, G: Gate + Sync>(
     rt: &R,
     alloc: Global,
@@ -62,7 +58,7 @@ fn run<R: Threads + Wait + Sync, D: Depot, G: Gate + Sync>(
     run_together(rt, alloc, &scenario, limit, gate)
 }
 
-/// `solo` without an order: fetches a scenario, and runs it by round robin.
+/// Does `solo` without an order: fetches the scenario `name`, and runs it by round robin.
 fn solo<D: Depot>(alloc: Global, depot: &mut D, name: &Name, limit: u32) -> Result<Outcome, Exit>
     requires limit { IsLimit limit }
     ensures prepared { IsPrepared (depots D.files D.gave D.fetch_failed D.fetch_faults D.took D.append_failed D.append_faults) (Command.Solo name.now None limit) depot.old depot.new result }
@@ -84,7 +80,7 @@ fn solo<D: Depot>(alloc: Global, depot: &mut D, name: &Name, limit: u32) -> Resu
     run_rounds(alloc, &scenario, limit)
 }
 
-/// `solo` with an order: fetches a scenario and then an order, and runs the one over the other.
+/// Does `solo` with an order: fetches `scenario` and then `order`, and runs the scenario over the order.
 fn solo_in_order<D: Depot>(
     alloc: Global,
     depot: &mut D,
@@ -112,7 +108,7 @@ fn solo_in_order<D: Depot>(
     run_in_order(alloc, &scenario, &order, limit)
 }
 
-/// `bench`: runs the scenario of a bench with a thread for its processor.
+/// Does `bench`: runs the scenario of the bench `number` with a thread for its processor.
 fn bench<R: Threads + Wait + Sync, D: Depot, G: Gate + Sync>(
     rt: &R,
     alloc: Global,
@@ -140,7 +136,7 @@ fn bench<R: Threads + Wait + Sync, D: Depot, G: Gate + Sync>(
     Ok(summed_up(alloc, finished, number)?)
 }
 
-/// What a command makes, before the first byte goes out.
+/// Makes what `command` asks for, before the first byte goes out.
 pub fn prepare<R: Threads + Wait + Sync, D: Depot, G: Gate + Sync>(
     rt: &R,
     alloc: Global,

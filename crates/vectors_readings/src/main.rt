@@ -10,8 +10,7 @@ use std::alloc::Global;
 use std::io;
 use std::io::{BufRead, BufReader, BufWriter, Write};
 
-/// Writes a word with its reading, and a line more where the instruction is encoded as another word.
-/// A fence may be: it has many words.
+/// Writes `word` with its reading, and a line more where the instruction is encoded as another word. A fence may be: it has many words.
 fn write_reading(out: &mut impl Write, alloc: Global, word: u32) -> io::Result<()> {
     let Some(instr) = decode(word) else {
         return writeln!(out, "{word:08x} illegal");

@@ -13,7 +13,7 @@ memory_with program = flat_map (to_le_bytes w32) program ++ replicate (SIZE - 4 
 abbrev pub offset_of : ℕ → Option ℕ
 offset_of address = if nat_le START address && nat_lt address (START + SIZE) then Some (address - START) else None
 
--- the number in so many bytes
+-- the number in `width` bytes
 abbrev pub loaded : List ℕ → ℕ → ℕ → Option ℕ
 loaded bytes address width = option_map (λ at. from_le_bytes w32 (slice_range bytes at (at + width))) (offset_of address)
 

@@ -21,7 +21,7 @@ abbrev pub ended : Once → Registers → List ℕ → (Registers → List ℕ �
 ended (Raised reason q0 q1) r bytes rest = record { outcome = Raise reason q0 q1; registers = r; bytes = bytes }
 ended (Went next store) r bytes rest = rest next (after_store store bytes)
 
--- the end of a run of at most so many instructions
+-- the end of a run of at most as many instructions as the number says
 unfoldable pub run : ℕ → Registers → List ℕ → End
 run zero r bytes = record { outcome = Next; registers = r; bytes = bytes }
 run (suc steps) r bytes = ended (one r (space bytes)) r bytes (run steps)

@@ -19,7 +19,7 @@ use std::io::{BufRead, BufReader, BufWriter, Write};
 /// How many instructions a program may take.
 const STEPS: u32 = 10_000;
 
-/// Reads a program: words in hexadecimal with one space between, no more than memory holds.
+/// Reads the program `line`: words in hexadecimal with one space between, no more than memory holds.
 fn parse_program(alloc: Global, line: &str) -> io::Result<Vec<u32>>
     ensures { IfOk result (λ program. vec_len program ≤ WORDS) }
 {
@@ -38,7 +38,7 @@ fn parse_program(alloc: Global, line: &str) -> io::Result<Vec<u32>>
     Ok(program)
 }
 
-/// Runs a program and writes the registers that it ends with, or how it ended if not at a breakpoint.
+/// Runs `program` and writes the registers that it ends with, or how it ended if not at a breakpoint.
 fn write_run(out: &mut impl Write, alloc: Global, program: &[u32]) -> io::Result<()>
     requires { length program.now ≤ WORDS }
 {

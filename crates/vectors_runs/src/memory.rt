@@ -33,7 +33,7 @@ impl Model for Memory {
 }
 
 impl Memory {
-    /// Memory with the words of a program at its start and zeros after them.
+    /// Memory with the words of `program` at its start and zeros after them.
     pub fn new(alloc: Global, program: &[u32]) -> Result<Memory, AllocError>
         requires { length program.now ≤ WORDS }
         ensures { IfOk result (λ memory. memory ≡ memory_with program.now) }
@@ -47,7 +47,7 @@ impl Memory {
     }
 }
 
-/// Where the byte at an address stands in memory, or nothing where memory doesn't have it.
+/// Where the byte at `addr` stands in memory, or nothing where memory doesn't have it.
 fn offset_of(addr: u32) -> Option<usize>
     ensures { result ≡ offset_of addr }
 {
@@ -56,7 +56,7 @@ fn offset_of(addr: u32) -> Option<usize>
         .filter(|offset| *offset < SIZE)
 }
 
-/// The number in at most four bytes, of which the first is the lowest.
+/// The number in `bytes`, at most four, of which the first is the lowest.
 fn number_of(bytes: &[u8]) -> u32
     requires { length bytes.now ≤ 4 }
     ensures number { result ≡ from_le_bytes w32 bytes.now }

@@ -4,7 +4,7 @@ ghost use Rattle.vectors_runs.specs.Run.{run};
 use crate::memory::Memory;
 use rv_core::{Outcome, Regs, step};
 
-/// Runs instructions until one raises, and gives the raise, or `Next` where none of so many did.
+/// Runs instructions until one raises, and gives the raise, or `Next` where none of `steps` did.
 pub fn run(regs: &mut Regs, memory: &mut Memory, steps: u32) -> Outcome
     ensures { record { outcome = result; registers = regs.new; bytes = memory.new } ≡ run steps regs.old memory.old }
 {

@@ -8,7 +8,7 @@ use std::alloc::Global;
 use std::io;
 use std::io::{BufWriter, Write};
 
-/// Writes the words of a text, or its fault.
+/// Writes the words of `text`, or its fault.
 fn write_words(alloc: Global, out: &mut impl Write, text: &str) -> io::Result<()> {
     match assemble(alloc, text.as_bytes()) {
         Ok(words) => {

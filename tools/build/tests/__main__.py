@@ -14,6 +14,7 @@ import tempfile
 import time
 import unittest
 from pathlib import Path
+from unittest import mock
 
 TOOL = Path(__file__).resolve().parents[1]
 sys.path.insert(0, str(TOOL))
@@ -21,7 +22,8 @@ sys.path.insert(0, str(TOOL))
 from children import Children, Ended  # noqa: E402
 from endings import Endings  # noqa: E402, F401
 from hints import POLICY_HELP, hints, policy_hints  # noqa: E402
-from schedule import Schedule, above, costs, dependencies, in_order, seconds_by  # noqa: E402
+import schedule  # noqa: E402
+from schedule import Schedule, Start, above, costs, dependencies, in_order, seconds_by  # noqa: E402
 
 CRATES = "# Crates.\nlow:\nlong: low\nshort: low\nnova: long short clap # the program\n"
 SECONDS = {"low": 10, "long": 100, "short": 20, "nova": 30}
@@ -122,18 +124,23 @@ class Schedules(unittest.TestCase):
         alone = Schedule.of("nova", dependencies(CRATES), SECONDS, 1, 1)
         self.assertEqual(alone.seconds_left([], {}, 1), 160)
 
-    def test_a_way_that_is_nearly_the_longest_has_all_jobs(self) -> None:
+    def test_a_way_that_is_nearly_the_longest_goes_before_others(self) -> None:
         plan = Schedule.of("nova", dependencies(CRATES), SECONDS | {"short": 75}, 2, 4)
-        self.assertEqual(plan.next(["long", "short", "nova"], ["low"], []), {"long": 4, "short": 4})
+        self.assertEqual(plan.next(["long", "short", "nova"], ["low"], []), {"long": Start(1, True), "short": Start(1, True)})
 
-    def test_the_longest_way_has_all_jobs(self) -> None:
+    def test_the_longest_way_waits_for_no_worker(self) -> None:
+        plan = Schedule.of("nova", dependencies(CRATES), SECONDS, 1, 4)
+        self.assertEqual(plan.next(["long", "nova"], ["low"], ["short"]), {"long": Start(1, True)})
+        self.assertEqual(plan.next(["short", "nova"], ["low"], ["long"]), {})
+
+    def test_the_longest_way_has_the_jobs_that_pay(self) -> None:
         plan = Schedule.of("nova", dependencies(CRATES), SECONDS, 2, 4)
-        self.assertEqual(plan.next(plan.below, [], []), {"low": 4})
-        self.assertEqual(plan.next(["long", "short", "nova"], ["low"], []), {"long": 4, "short": 1})
-        self.assertEqual(plan.next(["short", "nova"], ["low"], ["long"]), {"short": 1})
-        self.assertEqual(plan.next(["short", "nova"], ["low", "long"], []), {"short": 4})
-        self.assertEqual(plan.next(["nova"], ["low", "long", "short"], []), {"nova": 1})
-        self.assertEqual(plan.seconds_left([], {}, 1), seconds_by(4, 10) + seconds_by(4, 100) + 30)
+        with mock.patch.dict(schedule.PAYING, {"low": 9, "long": 3}):
+            self.assertEqual(plan.next(plan.below, [], []), {"low": Start(4, True)})
+            self.assertEqual(plan.next(["long", "short", "nova"], ["low"], []), {"long": Start(3, True), "short": Start(1)})
+            self.assertEqual(plan.next(["short", "nova"], ["low", "long"], []), {"short": Start(1, True)})
+            self.assertEqual(plan.next(["nova"], ["low", "long", "short"], []), {"nova": Start(1, True)})
+            self.assertEqual(plan.seconds_left([], {}, 1), seconds_by(4, 10) + seconds_by(3, 100) + 30)
 
     def test_a_change_proves_again_what_stands_on_the_crate(self) -> None:
         named = dependencies(CRATES)

@@ -1,5 +1,5 @@
 use Rattle.nova_io.specs.Outside.{depots}
-use Rattle.nova_top.proofs.Unread.{unread, unread_files, unread_others}
+use Rattle.nova_answers.proofs.Unread.{unread, unread_files, unread_others}
 use Rattle.nova_top.proofs.main_call.nova_main.Goals as goal
 
 pub returns-in-Err-clause-calls : goal.returns-in-Err-clause-calls

@@ -1,7 +1,7 @@
 use Rattle.nova_io.specs.Outside.{depots, sinks}
-use Rattle.nova_top.proofs.Complete.{completes_unless_made}
-use Rattle.nova_top.proofs.Answered.{answered, completed, written, all_calls, all_files, all_counts, others_of, others_after}
-use Rattle.nova_top.proofs.Unread.{files_stay, without_appends}
+use Rattle.nova_answers.proofs.Complete.{completes_unless_made}
+use Rattle.nova_answers.proofs.Answered.{answered, completed, written, all_calls, all_files, all_counts, others_of, others_after}
+use Rattle.nova_answers.proofs.Unread.{files_stay, without_appends}
 use Rattle.nova_top.proofs.main_call.serve.Goals as goal
 
 pub returns-in-Err-clause-complete : goal.returns-in-Err-clause-complete

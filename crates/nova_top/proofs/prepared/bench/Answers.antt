@@ -1,5 +1,5 @@
 use Rattle.nova_io.specs.Outside.{depots}
-use Rattle.nova_top.proofs.Made.{made_bench}
+use Rattle.nova_answers.proofs.Made.{made_bench}
 use Rattle.nova_top.proofs.prepared.bench.Goals as goal
 
 pub returns : goal.returns

@@ -1,8 +1,8 @@
 use Rattle.std.proofs.Common.{[], sym, subst}
 use Rattle.nova_command.specs.declared.command.Command.{Command}
-use Rattle.nova_top.specs.Fetches.{Fetches}
+use Rattle.nova_answers.specs.Fetches.{Fetches}
 use Rattle.nova_io.specs.Outside.{depots}
-use Rattle.nova_top.specs.Prepared.{IsPrepared, exit_of}
+use Rattle.nova_answers.specs.Prepared.{IsPrepared, exit_of}
 use Rattle.nova_top.proofs.prepared.prepare.Goals as goal
 
 pub returns-in-Run-clause-prepared : goal.returns-in-Run-clause-prepared

@@ -1,5 +1,5 @@
 use Rattle.nova_io.specs.Outside.{depots}
-use Rattle.nova_top.proofs.Made.{together_by}
+use Rattle.nova_answers.proofs.Made.{together_by}
 use Rattle.nova_top.proofs.prepared.run.Goals as goal
 
 pub returns-clause-prepared : goal.returns-clause-prepared

@@ -1,8 +1,8 @@
 use Rattle.std.proofs.Common.{◌≡◌, ℕ, subst, Err, rules}
 use Rattle.nova_io.specs.Outside.{depots}
 use Rattle.nova_loading.specs.Came.{OrderCame}
-use Rattle.nova_top.specs.Prepared.{IsOrderReadBy}
-use Rattle.nova_top.proofs.Made.{unread_by, order_by}
+use Rattle.nova_answers.specs.Prepared.{IsOrderReadBy}
+use Rattle.nova_answers.proofs.Made.{unread_by, order_by}
 use Rattle.nova_top.proofs.prepared.solo_in_order.Goals as goal
 
 pub returns-in_err-order-clause-prepared : goal.returns-in_err-order-clause-prepared

@@ -1,4 +1,4 @@
-use Rattle.std.proofs.Common.{◌≡◌, refl, sym, ap, subst, ◌∙◌, arith}
+use Rattle.std.proofs.Common.{refl, sym, ap, subst, ◌∙◌, arith}
 use Rattle.nova_lock.specs.Seats.{AreSeats}
 use Rattle.nova_model.specs.State.{KernelState}
 use Rattle.nova_shared.specs.Ran.{Ran}

@@ -2,7 +2,7 @@ use Rattle.std.proofs.Common.{rules, ◌≡◌, ◌<◌, ◌≤◌, ◌+◌, ◌
 use Rattle.nova_model.specs.Runs.{run}
 use Rattle.nova_shared.specs.Ran.{Ran}
 use Rattle.nova_shared.specs.Told.{HasNone}
-use Rattle.nova_shared.specs.UnderWay.{left}
+use Rattle.nova_finished.specs.UnderWay.{left}
 use Rattle.nova_shared.proofs.Shares.{seen_more, shared_more, there_on, told_of}
 use Rattle.nova_shared.proofs.shared_run.SharedRun.turns.Goals as goal
 

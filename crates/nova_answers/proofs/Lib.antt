@@ -1,0 +1,13 @@
+pub mod Results
+pub mod Reports
+pub mod Counts
+pub mod Sourced
+pub mod Made
+pub mod Complete
+pub mod Unread
+pub mod Answered
+pub mod TwoLines
+pub mod Single
+pub mod Replays
+pub mod Repeated
+pub mod Loaded

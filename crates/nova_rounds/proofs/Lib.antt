@@ -1,0 +1,5 @@
+pub mod Keeping
+pub mod Taken
+pub mod Passes
+pub mod Lone
+pub mod Blocks

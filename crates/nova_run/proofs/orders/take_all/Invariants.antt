@@ -1,7 +1,0 @@
-use Rattle.std.proofs.Common.{take}
-use Rattle.nova_run.specs.UnderWay.{IsAlong}
-use Rattle.nova_run.proofs.orders.take_all.Given as goal
-
--- the blocks so far
-abbrev pub invariant-loop-index : goal.invariant-loop-index
-invariant-loop-index l = IsAlong l.fn.run.kernel.state l.fn.run.limit l.run (take l.index l.block-items)

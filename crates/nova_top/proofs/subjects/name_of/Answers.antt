@@ -1,6 +1,0 @@
-use Rattle.std.proofs.lemmas.Str.{IsUtf8-from_ascii}
-use Rattle.nova_top.proofs.TwoLines.{name_ascii}
-use Rattle.nova_top.proofs.subjects.name_of.Goals as goal
-
-pub unreachable-requires : goal.unreachable-requires
-unreachable-requires c = c.in-Err.ensures.cases.0 (IsUtf8-from_ascii c.args.text.now (name_ascii c.args.text.now c.requires))
