@@ -39,16 +39,17 @@ use Rattle.law_integrity.proofs.Confining.{member_pd}
 use Rattle.law_integrity.proofs.Leaving.{leaves_other}
 use Rattle.law_integrity.proofs.Passing.{coming, due_in, turned_by_time}
 use Rattle.law_integrity.proofs.Resting.{acts_in}
-use Rattle.law_flow.specs.Flow.{AreAlike, AreAtWork, IsPartitioned, IsAtWork, gain_for, if_own, own_bytes, own_deed, own_deeds, own_turn}
-use Rattle.law_flow.specs.Processors.{AreAtHome, AreTimed, IsAtHome, events_on}
+use Rattle.law_flow.specs.Flow.{AreAlike, AreAtWork, DerivesWithin, IsPartitioned, IsAtWork, gain_for, if_own, own_bytes, own_deed, own_deeds, own_turn, RevokesNothing}
+use Rattle.law_flow.specs.Processors.{AreAtHome, AreTimed, IsAtHome, events_on, unnumbered_event}
 use Rattle.law_flow.proofs.Choosing.{still_acts}
-use Rattle.law_flow.proofs.Guarding.{GoesOn, OthersTurn, next_partitioned, none_made_by, others_turn, own_from, own_goes_on}
-use Rattle.law_flow.proofs.Home.{HomeTurn, IsActorOf, actor_there, home_turn, own_none_deed}
+use Rattle.law_flow.proofs.Guarding.{GoesOn, OthersTurn, kept_on, next_partitioned, none_made_by, others_derive, others_turn, own_from}
+use Rattle.law_flow.proofs.Own.{own_goes_on}
+use Rattle.law_flow.proofs.Home.{AreTogether, HomeTurn, IsActorOf, actor_there, home_turn, own_none_deed}
 use Rattle.law_flow.proofs.Keeping.{passed_side}
 use Rattle.law_flow.proofs.Leaving.{some_there, table_same}
 use Rattle.law_flow.proofs.Others.{IsForeign}
 use Rattle.law_flow.proofs.Telling.{told_away, told_here}
-use Rattle.law_flow.proofs.Turns.{alike_flipped, alike_through}
+use Rattle.law_flow.proofs.Turns.{alike_flipped, alike_through, derived_left, left_derived}
 use Rattle.law_flow.proofs.Paying.{timed_by, timed_flipped, timed_through}
 
 -- A TURN ELSEWHERE
@@ -207,10 +208,10 @@ home_others s before S P C T cpu part home c none = elim (comes (run (boot s) be
     k = run (boot s) before
 
     still : GoesOn (run (boot s) before) (run (boot s) before) (Of S) (Of P)
-    still = record { side = part.side; gains = λ d there mine. there; spaces = λ kind pd place mine. refl }
+    still = kept_on k k (Of S) (Of P) part.side (λ d there mine. there) (λ kind pd place mine. refl)
 
     passed : (p : Passing) → GoesOn (run (boot s) before) (turned (run (boot s) before) cpu (passing (run (boot s) before) p)) (Of S) (Of P)
-    passed p = record { side = passed_side k (Of S) (Of P) part.side cpu p; gains = λ d there mine. there; spaces = λ kind pd place mine. refl }
+    passed p = kept_on k (turned k cpu (passing k p)) (Of S) (Of P) (passed_side k (Of S) (Of P) part.side cpu p) (λ d there mine. there) (λ kind pd place mine. refl)
 
     by_actor : (d : Candidate) → next_to_act (run (boot s) before) cpu ≡ Some d → IsActorOf (run (boot s) before) cpu d.actor → ⊥
     by_actor d chosen its = elim (home.strangers d.actor its.pd cpu its.kind its.event its.object c) [
@@ -218,14 +219,14 @@ home_others s before S P C T cpu part home c none = elim (comes (run (boot s) be
       | inr idle ↦ absurd (not_both (acts k.contexts d.actor) (chosen_acts k cpu d chosen) (still_acts k.contexts (state_in k.contexts d.actor) idle.state))
     ]
 
-pub home_next : (s : Scenario) (before : List ℕ) (S P C : ℕ → Bool) (T : ℕ → Type 0) (cpu : ℕ) → IsPartitioned (run (boot s) before) (Of S) T (Of P) →
-    IsAtHome (run (boot s) before) (Of S) (Of P) (Of C) → C cpu ≡ true → ((ec sc : ℕ) → own_turn S (run (boot s) before) cpu ≡ Some (ec, sc) → IsAtWork (Unit {0}) (run (boot s) before) ec) →
-    IsPartitioned (after (run (boot s) before) cpu) (Of S) (more (run (boot s) before) T cpu) (Of P)
-home_next s before S P C T cpu part home c works = by_own (own_turn S (run (boot s) before) cpu) refl
+pub home_next : (revokes : Bool) (s : Scenario) (before : List ℕ) (S P C : ℕ → Bool) (T : ℕ → Type 0) (cpu : ℕ) → IsPartitioned (run (boot s) before) (Of S) T (Of P) →
+    IsAtHome (run (boot s) before) (Of S) (Of P) (Of C) → C cpu ≡ true → ((ec sc : ℕ) → own_turn S (run (boot s) before) cpu ≡ Some (ec, sc) → IsAtWork (Unit {0}) (RevokesNothing (run (boot s) before) (Of S)) (revokes ≡ true) (run (boot s) before) ec) →
+    (revokes ≡ true → DerivesWithin (run (boot s) before) (Of S)) → IsPartitioned (after (run (boot s) before) cpu) (Of S) (more (run (boot s) before) T cpu) (Of P)
+home_next revokes s before S P C T cpu part home c works within = by_own (own_turn S (run (boot s) before) cpu) refl
   where
     by_own : (o : Option (ℕ × ℕ)) → own_turn S (run (boot s) before) cpu ≡ o → IsPartitioned (after (run (boot s) before) cpu) (Of S) (more (run (boot s) before) T cpu) (Of P)
     by_own None is = next_partitioned s before S P T cpu part (home_others s before S P C T cpu part home c is) (none_made_by S (run (boot s) before) cpu is)
-    by_own (Some pair) is = own_goes_on (Unit {0}) s before S P T cpu pair.0 pair.1 part is (works pair.0 pair.1 is)
+    by_own (Some pair) is = own_goes_on (Unit {0}) revokes s before S P T cpu pair.0 pair.1 part is (works pair.0 pair.1 is) within
 
 pub away_next : (s : Scenario) (before : List ℕ) (S P C : ℕ → Bool) (T : ℕ → Type 0) (cpu : ℕ) → IsPartitioned (run (boot s) before) (Of S) T (Of P) →
     IsAtHome (run (boot s) before) (Of S) (Of P) (Of C) → C cpu ≡ false → IsPartitioned (after (run (boot s) before) cpu) (Of S) (more (run (boot s) before) T cpu) (Of P)
@@ -241,15 +242,15 @@ pub record IsReached (k : KernelState) (S P : ℕ → Bool) (T : ℕ → Type 0)
   pub is : run (boot scenario) before ≡ k
   pub part : IsPartitioned k (Of S) T (Of P)
 
-pub home_further : (k : KernelState) (S P C : ℕ → Bool) (T : ℕ → Type 0) (cpu : ℕ) → IsReached k S P T → IsAtHome k (Of S) (Of P) (Of C) → C cpu ≡ true →
-    ((ec sc : ℕ) → own_turn S k cpu ≡ Some (ec, sc) → IsAtWork (Unit {0}) k ec) → IsReached (after k cpu) S P (more k T cpu)
-home_further k S P C T cpu r home c works = record {
+pub home_further : (revokes : Bool) (k : KernelState) (S P C : ℕ → Bool) (T : ℕ → Type 0) (cpu : ℕ) → IsReached k S P T → IsAtHome k (Of S) (Of P) (Of C) → C cpu ≡ true →
+    ((ec sc : ℕ) → own_turn S k cpu ≡ Some (ec, sc) → IsAtWork (Unit {0}) (RevokesNothing k (Of S)) (revokes ≡ true) k ec) → (revokes ≡ true → DerivesWithin k (Of S)) → IsReached (after k cpu) S P (more k T cpu)
+home_further revokes k S P C T cpu r home c works within = record {
   scenario = r.scenario;
   before = r.before ++ cpu ∷ [];
   is = run_append (boot r.scenario) r.before (cpu ∷ []) ∙ ap (λ (l : KernelState). after l cpu) r.is;
   part =
-      subst (λ (l : KernelState). IsPartitioned l (Of S) T (Of P) → IsAtHome l (Of S) (Of P) (Of C) → ((ec sc : ℕ) → own_turn S l cpu ≡ Some (ec, sc) → IsAtWork (Unit {0}) l ec) →
-      IsPartitioned (after l cpu) (Of S) (more l T cpu) (Of P)) r.is (λ p h w. home_next r.scenario r.before S P C T cpu p h c w) r.part home works;
+      subst (λ (l : KernelState). IsPartitioned l (Of S) T (Of P) → IsAtHome l (Of S) (Of P) (Of C) → ((ec sc : ℕ) → own_turn S l cpu ≡ Some (ec, sc) → IsAtWork (Unit {0}) (RevokesNothing l (Of S)) (revokes ≡ true) l ec) →
+      (revokes ≡ true → DerivesWithin l (Of S)) → IsPartitioned (after l cpu) (Of S) (more l T cpu) (Of P)) r.is (λ p h w v. home_next revokes r.scenario r.before S P C T cpu p h c w v) r.part home works within;
 }
 
 pub away_further : (k : KernelState) (S P C : ℕ → Bool) (T : ℕ → Type 0) (cpu : ℕ) → IsReached k S P T → IsAtHome k (Of S) (Of P) (Of C) → C cpu ≡ false → IsReached (after k cpu) S P (more k T cpu)
@@ -266,16 +267,39 @@ pub away_at : (k : KernelState) (S P C : ℕ → Bool) (T : ℕ → Type 0) (cpu
 away_at k S P C T cpu r home out =
     subst (λ (l : KernelState). IsPartitioned l (Of S) T (Of P) → IsAtHome l (Of S) (Of P) (Of C) → AwayTurn l S P C cpu) r.is (λ p h. away_turn r.scenario r.before S P C T cpu p h out) r.part home
 
-pub home_at : (k l : KernelState) (S P C : ℕ → Bool) (T U : ℕ → Type 0) (cpu : ℕ) → IsReached k S P T → IsReached l S P U → AreAlike k l (Of S) (Of P) → AreTimed k l (Of P) (Of C) →
-    IsAtHome k (Of S) (Of P) (Of C) → IsAtHome l (Of S) (Of P) (Of C) → ((ec sc : ℕ) → own_turn S k cpu ≡ Some (ec, sc) → IsAtWork (Unit {0}) k ec) → C cpu ≡ true → HomeTurn k l S P C cpu
-home_at k l S P C T U cpu r q alike timed home abroad works c =
-    subst (λ (m : KernelState). IsPartitioned m (Of S) T (Of P) → AreAlike m l (Of S) (Of P) → AreTimed m l (Of P) (Of C) → IsAtHome m (Of S) (Of P) (Of C) →
-    ((ec sc : ℕ) → own_turn S m cpu ≡ Some (ec, sc) → IsAtWork (Unit {0}) m ec) → HomeTurn m l S P C cpu) r.is
+pub home_at : (revokes : Bool) (k l : KernelState) (S P C : ℕ → Bool) (T U : ℕ → Type 0) (cpu : ℕ) → IsReached k S P T → IsReached l S P U → AreAlike k l (Of S) (Of P) → AreTogether revokes k l S P C →
+    IsAtHome k (Of S) (Of P) (Of C) → IsAtHome l (Of S) (Of P) (Of C) → ((ec sc : ℕ) → own_turn S k cpu ≡ Some (ec, sc) → IsAtWork (Unit {0}) (RevokesNothing k (Of S)) (revokes ≡ true) k ec) → C cpu ≡ true → HomeTurn revokes k l S P C cpu
+home_at revokes k l S P C T U cpu r q alike timed home abroad works c =
+    subst (λ (m : KernelState). IsPartitioned m (Of S) T (Of P) → AreAlike m l (Of S) (Of P) → AreTogether revokes m l S P C → IsAtHome m (Of S) (Of P) (Of C) →
+    ((ec sc : ℕ) → own_turn S m cpu ≡ Some (ec, sc) → IsAtWork (Unit {0}) (RevokesNothing m (Of S)) (revokes ≡ true) m ec) → HomeTurn revokes m l S P C cpu) r.is
     (subst (λ (n : KernelState). IsPartitioned n (Of S) U (Of P) → IsAtHome n (Of S) (Of P) (Of C) → IsPartitioned (run (boot r.scenario) r.before) (Of S) T (Of P) →
-    AreAlike (run (boot r.scenario) r.before) n (Of S) (Of P) → AreTimed (run (boot r.scenario) r.before) n (Of P) (Of C) → IsAtHome (run (boot r.scenario) r.before) (Of S) (Of P) (Of C) →
-    ((ec sc : ℕ) → own_turn S (run (boot r.scenario) r.before) cpu ≡ Some (ec, sc) → IsAtWork (Unit {0}) (run (boot r.scenario) r.before) ec) → HomeTurn (run (boot r.scenario) r.before) n S P C cpu) q.is
-    (λ second other first a t h w. home_turn r.scenario q.scenario r.before q.before S P C T U cpu first second a t h other w c) q.part abroad)
+    AreAlike (run (boot r.scenario) r.before) n (Of S) (Of P) → AreTogether revokes (run (boot r.scenario) r.before) n S P C → IsAtHome (run (boot r.scenario) r.before) (Of S) (Of P) (Of C) →
+    ((ec sc : ℕ) → own_turn S (run (boot r.scenario) r.before) cpu ≡ Some (ec, sc) → IsAtWork (Unit {0}) (RevokesNothing (run (boot r.scenario) r.before) (Of S)) (revokes ≡ true) (run (boot r.scenario) r.before) ec) → HomeTurn revokes (run (boot r.scenario) r.before) n S P C cpu) q.is
+    (λ second other first a t h w. home_turn revokes r.scenario q.scenario r.before q.before S P C T U cpu first second a t h other w c) q.part abroad)
     r.part alike timed home works
+
+derive_at : (k : KernelState) (S P : ℕ → Bool) (T : ℕ → Type 0) (cpu : ℕ) → IsReached k S P T → own_turn S k cpu ≡ None → DerivesWithin k (Of S) → DerivesWithin (after k cpu) (Of S)
+derive_at k S P T cpu r none within =
+    subst (λ (l : KernelState). IsPartitioned l (Of S) T (Of P) → own_turn S l cpu ≡ None → DerivesWithin l (Of S) → DerivesWithin (after l cpu) (Of S)) r.is
+    (λ p n w. others_derive r.scenario r.before S P T cpu p n w) r.part none within
+
+sound_there : (k : KernelState) (S P : ℕ → Bool) (T : ℕ → Type 0) → IsReached k S P T → IsSound k
+sound_there k S P T r = subst IsSound r.is (reached_sound r.scenario r.before)
+
+-- a turn elsewhere leaves them together, in the first and in the second
+pub together_first : (revokes : Bool) (k l : KernelState) (S P C : ℕ → Bool) (T : ℕ → Type 0) (cpu : ℕ) → IsReached k S P T → AwayTurn k S P C cpu → AreTogether revokes k l S P C → AreTogether revokes (after k cpu) l S P C
+together_first revokes k l S P C T cpu r away t = record {
+  timed = timed_through (after k cpu) k l (Of P) (Of C) (timed_flipped k (after k cpu) (Of P) (Of C) away.timed) t.timed;
+  within = λ yes. let w = t.within yes in
+      record { alike = left_derived k l S P cpu (sound_there k S P T r) away.turn.same w.alike; first = derive_at k S P T cpu r away.own w.first; second = w.second };
+}
+
+pub together_second : (revokes : Bool) (k l : KernelState) (S P C : ℕ → Bool) (U : ℕ → Type 0) (cpu : ℕ) → IsReached l S P U → AwayTurn l S P C cpu → AreTogether revokes k l S P C → AreTogether revokes k (after l cpu) S P C
+together_second revokes k l S P C U cpu r away t = record {
+  timed = timed_through k l (after l cpu) (Of P) (Of C) t.timed away.timed;
+  within = λ yes. let w = t.within yes in
+      record { alike = derived_left k l S P cpu (sound_there l S P U r) away.turn.same w.alike; first = w.first; second = derive_at l S P U cpu r away.own w.second };
+}
 
 pub record HomeEnds (k l : KernelState) (S P C : ℕ → Bool) (es fs : List (ℕ × Deed)) (bs cs : List LogByte) (xs ys : List Event) : Type 0 where
   pub alike : AreAlike k l (Of S) (Of P)
@@ -290,36 +314,36 @@ pub record GoesHome (k : KernelState) (S P C : ℕ → Bool) (T : ℕ → Type 0
   pub home : AreAtHome S P C k turns
 
 -- the second goes on elsewhere alone
-ends_elsewhere : (S P C : ℕ → Bool) (us : List ℕ) (k l : KernelState) (U : ℕ → Type 0) → AreAlike k l (Of S) (Of P) → AreTimed k l (Of P) (Of C) → GoesHome l S P C U us → [] ≡ filter C us →
+ends_elsewhere : (revokes : Bool) (S P C : ℕ → Bool) (us : List ℕ) (k l : KernelState) (U : ℕ → Type 0) → AreAlike k l (Of S) (Of P) → AreTogether revokes k l S P C → GoesHome l S P C U us → [] ≡ filter C us →
     HomeEnds k (run l us) S P C [] (own_deeds S l us) [] (own_bytes S l us) [] (events_on C (trace l us))
-ends_elsewhere S P C [] k l U alike timed g none = record { alike = alike; timed = timed; deeds = refl; bytes = refl; events = refl }
-ends_elsewhere S P C (cpu ∷ us) k l U alike timed g none = by_test (C cpu) refl none (λ a t h rest. ends_elsewhere S P C us k (after l cpu) (more l U cpu) a t h rest)
+ends_elsewhere revokes S P C [] k l U alike timed g none = record { alike = alike; timed = timed.timed; deeds = refl; bytes = refl; events = refl }
+ends_elsewhere revokes S P C (cpu ∷ us) k l U alike timed g none = by_test (C cpu) refl none (λ a t h rest. ends_elsewhere revokes S P C us k (after l cpu) (more l U cpu) a t h rest)
   where
     by_test : (t : Bool) → C cpu ≡ t → [] ≡ (if t then cpu ∷ filter C us else filter C us) →
-        (AreAlike k (after l cpu) (Of S) (Of P) → AreTimed k (after l cpu) (Of P) (Of C) → GoesHome (after l cpu) S P C (more l U cpu) us → [] ≡ filter C us →
+        (AreAlike k (after l cpu) (Of S) (Of P) → AreTogether revokes k (after l cpu) S P C → GoesHome (after l cpu) S P C (more l U cpu) us → [] ≡ filter C us →
         HomeEnds k (run (after l cpu) us) S P C [] (own_deeds S (after l cpu) us) [] (own_bytes S (after l cpu) us) [] (events_on C (trace (after l cpu) us))) →
         HomeEnds k (run (after l cpu) us) S P C [] (in_front (own_deed S l cpu) (own_deeds S (after l cpu) us)) [] (gain_for l cpu (own_turn S l cpu) ++ own_bytes S (after l cpu) us)
         [] (events_on C (in_front (event_at l cpu) (trace (after l cpu) us)))
     by_test true is rest later = absurd (cc)
     by_test false is rest later =
         let away = away_at l S P C U cpu g.reached g.home.0 is in
-        let ended = later (alike_through k l (after l cpu) (Of S) (Of P) alike away.turn.same) (timed_through k l (after l cpu) (Of P) (Of C) timed away.timed)
+        let ended = later (alike_through k l (after l cpu) (Of S) (Of P) alike away.turn.same) (together_second revokes k l S P C U cpu g.reached away timed)
         (record { reached = away_further l S P C U cpu g.reached g.home.0 is; home = g.home.1 }) rest in
         record { alike = ended.alike; timed = ended.timed; deeds = ap (λ (o : Option (ℕ × Deed)). in_front o (own_deeds S (after l cpu) us)) (own_none_deed S l cpu away.own) ∙ ended.deeds; bytes = ap (λ (o : Option (ℕ × ℕ)). gain_for l cpu o ++ own_bytes S (after l cpu) us) away.own ∙ ended.bytes; events = told_away C l cpu (trace (after l cpu) us) is ∙ ended.events }
 
 -- the second goes on elsewhere until the next turn of a processor of the side's, which is as the first's
-meets_home : (S P C : ℕ → Bool) (us : List ℕ) (k l : KernelState) (T U : ℕ → Type 0) (cpu : ℕ) (ts : List ℕ) → C cpu ≡ true → GoesHome k S P C T (cpu ∷ ts) → ((ec sc : ℕ) → own_turn S k cpu ≡ Some (ec, sc) → IsAtWork (Unit {0}) k ec) → GoesHome l S P C U us →
-    AreAlike k l (Of S) (Of P) → AreTimed k l (Of P) (Of C) → cpu ∷ filter C ts ≡ filter C us →
-    ((vs : List ℕ) (m : KernelState) (V : ℕ → Type 0) → GoesHome m S P C V vs → AreAlike (after k cpu) m (Of S) (Of P) → AreTimed (after k cpu) m (Of P) (Of C) → filter C ts ≡ filter C vs →
+meets_home : (revokes : Bool) (S P C : ℕ → Bool) (us : List ℕ) (k l : KernelState) (T U : ℕ → Type 0) (cpu : ℕ) (ts : List ℕ) → C cpu ≡ true → GoesHome k S P C T (cpu ∷ ts) → ((ec sc : ℕ) → own_turn S k cpu ≡ Some (ec, sc) → IsAtWork (Unit {0}) (RevokesNothing k (Of S)) (revokes ≡ true) k ec) → GoesHome l S P C U us →
+    AreAlike k l (Of S) (Of P) → AreTogether revokes k l S P C → cpu ∷ filter C ts ≡ filter C us →
+    ((vs : List ℕ) (m : KernelState) (V : ℕ → Type 0) → GoesHome m S P C V vs → AreAlike (after k cpu) m (Of S) (Of P) → AreTogether revokes (after k cpu) m S P C → filter C ts ≡ filter C vs →
     HomeEnds (run (after k cpu) ts) (run m vs) S P C (own_deeds S (after k cpu) ts) (own_deeds S m vs) (own_bytes S (after k cpu) ts) (own_bytes S m vs) (events_on C (trace (after k cpu) ts)) (events_on C (trace m vs))) →
     HomeEnds (run (after k cpu) ts) (run l us) S P C (in_front (own_deed S k cpu) (own_deeds S (after k cpu) ts)) (own_deeds S l us) (gain_for k cpu (own_turn S k cpu) ++ own_bytes S (after k cpu) ts) (own_bytes S l us)
     (events_on C (in_front (event_at k cpu) (trace (after k cpu) ts))) (events_on C (trace l us))
-meets_home S P C [] k l T U cpu ts c g w h alike timed same later = absurd (cc)
-meets_home S P C (other ∷ us) k l T U cpu ts c g w h alike timed same later =
-    by_test (C other) refl same (λ next a t rest. meets_home S P C us k (after l other) T (more l U other) cpu ts c g w next a t rest later)
+meets_home revokes S P C [] k l T U cpu ts c g w h alike timed same later = absurd (cc)
+meets_home revokes S P C (other ∷ us) k l T U cpu ts c g w h alike timed same later =
+    by_test (C other) refl same (λ next a t rest. meets_home revokes S P C us k (after l other) T (more l U other) cpu ts c g w next a t rest later)
   where
     by_test : (t : Bool) → C other ≡ t → cpu ∷ filter C ts ≡ (if t then other ∷ filter C us else filter C us) →
-        (GoesHome (after l other) S P C (more l U other) us → AreAlike k (after l other) (Of S) (Of P) → AreTimed k (after l other) (Of P) (Of C) → cpu ∷ filter C ts ≡ filter C us →
+        (GoesHome (after l other) S P C (more l U other) us → AreAlike k (after l other) (Of S) (Of P) → AreTogether revokes k (after l other) S P C → cpu ∷ filter C ts ≡ filter C us →
         HomeEnds (run (after k cpu) ts) (run (after l other) us) S P C (in_front (own_deed S k cpu) (own_deeds S (after k cpu) ts)) (own_deeds S (after l other) us) (gain_for k cpu (own_turn S k cpu) ++ own_bytes S (after k cpu) ts) (own_bytes S (after l other) us)
         (events_on C (in_front (event_at k cpu) (trace (after k cpu) ts))) (events_on C (trace (after l other) us))) →
         HomeEnds (run (after k cpu) ts) (run (after l other) us) S P C (in_front (own_deed S k cpu) (own_deeds S (after k cpu) ts)) (in_front (own_deed S l other) (own_deeds S (after l other) us))
@@ -328,14 +352,14 @@ meets_home S P C (other ∷ us) k l T U cpu ts c g w h alike timed same later =
     by_test false is rest goes_on =
         let away = away_at l S P C U other h.reached h.home.0 is in
         let ended = goes_on (record { reached = away_further l S P C U other h.reached h.home.0 is; home = h.home.1 })
-        (alike_through k l (after l other) (Of S) (Of P) alike away.turn.same) (timed_through k l (after l other) (Of P) (Of C) timed away.timed) rest in
+        (alike_through k l (after l other) (Of S) (Of P) alike away.turn.same) (together_second revokes k l S P C U other h.reached away timed) rest in
         record { alike = ended.alike; timed = ended.timed; deeds = ap (λ (o : Option (ℕ × Deed)). in_front o (own_deeds S (after l other) us)) (own_none_deed S l other away.own) ∙ ended.deeds; bytes = ap (λ (o : Option (ℕ × ℕ)). gain_for l other o ++ own_bytes S (after l other) us) away.own ∙ ended.bytes; events = told_away C l other (trace (after l other) us) is ∙ ended.events }
     by_test true is rest goes_on =
         let one : cpu ≡ other = cc in
         let tails : filter C ts ≡ filter C us = cc in
-        let step = home_at k l S P C T U cpu g.reached h.reached alike timed g.home.0 h.home.0 w c in
-        let ended = later us (after l other) (more l U other) (record { reached = home_further l S P C U other h.reached h.home.0 is (subst (λ (n : ℕ). (ec sc : ℕ) → own_turn S l n ≡ Some (ec, sc) → IsAtWork (Unit {0}) l ec) one step.works); home = h.home.1 })
-        (subst (λ (n : ℕ). AreAlike (after k cpu) (after l n) (Of S) (Of P)) one step.alike) (subst (λ (n : ℕ). AreTimed (after k cpu) (after l n) (Of P) (Of C)) one step.timed) tails in
+        let step = home_at revokes k l S P C T U cpu g.reached h.reached alike timed g.home.0 h.home.0 w c in
+        let ended = later us (after l other) (more l U other) (record { reached = home_further revokes l S P C U other h.reached h.home.0 is (subst (λ (n : ℕ). (ec sc : ℕ) → own_turn S l n ≡ Some (ec, sc) → IsAtWork (Unit {0}) (RevokesNothing l (Of S)) (revokes ≡ true) l ec) one step.works) (λ yes. (timed.within yes).second); home = h.home.1 })
+        (subst (λ (n : ℕ). AreAlike (after k cpu) (after l n) (Of S) (Of P)) one step.alike) (subst (λ (n : ℕ). AreTogether revokes (after k cpu) (after l n) S P C) one step.timed) tails in
         record {
           alike = ended.alike;
           timed = ended.timed;
@@ -344,27 +368,27 @@ meets_home S P C (other ∷ us) k l T U cpu ts c g w h alike timed same later =
           bytes = ap₂ (λ (xs ys : List LogByte). xs ++ ys) (sym (ap (λ (n : ℕ). gain_for l n (own_turn S l n)) one) ∙ step.bytes) ended.bytes;
           events =
               told_here C l other (trace (after l other) us) is
-              ∙ ap₂ (λ (o : Option Event) (es : List Event). in_front o es) (sym (ap (event_at l) one) ∙ step.event) ended.events
+              ∙ ap₂ (λ (o : Option Event) (es : List Event). in_front o es) (sym (ap (λ (n : ℕ). option_map unnumbered_event (event_at l n)) one) ∙ step.event) ended.events
               ∙ sym (told_here C k cpu (trace (after k cpu) ts) c);
         }
 
-pub home_runs : (S P C : ℕ → Bool) (ts us : List ℕ) (k l : KernelState) (T U : ℕ → Type 0) → GoesHome k S P C T ts → AreAtWork S k ts → GoesHome l S P C U us → AreAlike k l (Of S) (Of P) → AreTimed k l (Of P) (Of C) →
+pub home_runs : (revokes : Bool) (S P C : ℕ → Bool) (ts us : List ℕ) (k l : KernelState) (T U : ℕ → Type 0) → GoesHome k S P C T ts → AreAtWork revokes S k ts → GoesHome l S P C U us → AreAlike k l (Of S) (Of P) → AreTogether revokes k l S P C →
     filter C ts ≡ filter C us → HomeEnds (run k ts) (run l us) S P C (own_deeds S k ts) (own_deeds S l us) (own_bytes S k ts) (own_bytes S l us) (events_on C (trace k ts)) (events_on C (trace l us))
-home_runs S P C [] us k l T U g works h alike timed same = ends_elsewhere S P C us k l U alike timed h same
-home_runs S P C (cpu ∷ ts) us k l T U g works h alike timed same =
-    by_test (C cpu) refl same (λ j vs m V W first at_work second a t rest. home_runs S P C ts vs j m V W first at_work second a t rest)
+home_runs revokes S P C [] us k l T U g works h alike timed same = ends_elsewhere revokes S P C us k l U alike timed h same
+home_runs revokes S P C (cpu ∷ ts) us k l T U g works h alike timed same =
+    by_test (C cpu) refl same (λ j vs m V W first at_work second a t rest. home_runs revokes S P C ts vs j m V W first at_work second a t rest)
   where
     by_test : (t : Bool) → C cpu ≡ t → (if t then cpu ∷ filter C ts else filter C ts) ≡ filter C us →
-        ((j : KernelState) (vs : List ℕ) (m : KernelState) (V W : ℕ → Type 0) → GoesHome j S P C V ts → AreAtWork S j ts → GoesHome m S P C W vs → AreAlike j m (Of S) (Of P) → AreTimed j m (Of P) (Of C) → filter C ts ≡ filter C vs →
+        ((j : KernelState) (vs : List ℕ) (m : KernelState) (V W : ℕ → Type 0) → GoesHome j S P C V ts → AreAtWork revokes S j ts → GoesHome m S P C W vs → AreAlike j m (Of S) (Of P) → AreTogether revokes j m S P C → filter C ts ≡ filter C vs →
         HomeEnds (run j ts) (run m vs) S P C (own_deeds S j ts) (own_deeds S m vs) (own_bytes S j ts) (own_bytes S m vs) (events_on C (trace j ts)) (events_on C (trace m vs))) →
         HomeEnds (run (after k cpu) ts) (run l us) S P C (in_front (own_deed S k cpu) (own_deeds S (after k cpu) ts)) (own_deeds S l us) (gain_for k cpu (own_turn S k cpu) ++ own_bytes S (after k cpu) ts) (own_bytes S l us)
         (events_on C (in_front (event_at k cpu) (trace (after k cpu) ts))) (events_on C (trace l us))
     by_test true is rest later =
-        meets_home S P C us k l T U cpu ts is g works.0 h alike timed rest (λ vs m V next a t tails. later (after k cpu) vs m (more k T cpu) V
-        (record { reached = home_further k S P C T cpu g.reached g.home.0 is works.0; home = g.home.1 }) works.1 next a t tails)
+        meets_home revokes S P C us k l T U cpu ts is g works.0 h alike timed rest (λ vs m V next a t tails. later (after k cpu) vs m (more k T cpu) V
+        (record { reached = home_further revokes k S P C T cpu g.reached g.home.0 is works.0 (λ yes. (timed.within yes).first); home = g.home.1 }) works.1 next a t tails)
     by_test false is rest later =
         let away = away_at k S P C T cpu g.reached g.home.0 is in
         let ended = later (after k cpu) us l (more k T cpu) U (record { reached = away_further k S P C T cpu g.reached g.home.0 is; home = g.home.1 }) works.1 h
         (alike_through (after k cpu) k l (Of S) (Of P) (alike_flipped k (after k cpu) (Of S) (Of P) away.turn.same) alike)
-        (timed_through (after k cpu) k l (Of P) (Of C) (timed_flipped k (after k cpu) (Of P) (Of C) away.timed) timed) rest in
+        (together_first revokes k l S P C T cpu g.reached away timed) rest in
         record { alike = ended.alike; timed = ended.timed; deeds = ended.deeds ∙ sym (ap (λ (o : Option (ℕ × Deed)). in_front o (own_deeds S (after k cpu) ts)) (own_none_deed S k cpu away.own)); bytes = ended.bytes ∙ sym (ap (λ (o : Option (ℕ × ℕ)). gain_for k cpu o ++ own_bytes S (after k cpu) ts) away.own); events = ended.events ∙ sym (told_away C k cpu (trace (after k cpu) ts) is) }

@@ -1,4 +1,4 @@
--- Who is chosen on a processor of the side's is the same in two states.
+-- The candidate that is chosen on a processor of the side's is the same in two states.
 use Rattle.std.proofs.Common.{◌≡◌, ◌⊎◌, ℕ, ◌+◌, zero, suc, List, [], ◌∷◌, refl, sym, ap, ap₂, ◌∙◌, subst, inl, inr, arith}
 use Rattle.std.specs.Prelude.{Bool, true, false, ◌==◌, ◌&&◌, ◌||◌, not, map, nat_lt, IfSome, IsSome, is_none, is_some, slice_get, option_map, option_and_then, Option, Some, None, if◌then◌else◌}
 use Rattle.std.specs.List.{AllByRecursion, find, list_all}
@@ -25,7 +25,7 @@ use Rattle.law_flow.specs.Processors.{AreTimed, IsAtHome, is_still, stamp_at, st
 use Rattle.law_flow.proofs.Seeing.{Both, edge_same, state_same, ways_same}
 use Rattle.law_flow.proofs.Timing.{listed, listed_same}
 
--- WHO ACTS IN THE TURNS OF ONE OF THE SIDE'S
+-- WHICH CONTEXT ACTS IN THE TURNS OF ONE OF THE SIDE
 
 acts_same : (k l : KernelState) (S P : ℕ → Type 0) → Both k l S P → (n : ℕ) → P n → acts l.contexts n ≡ acts k.contexts n
 acts_same k l S P b n p = ap (acts_as l.contexts) (state_same k l S P b n p) ∙ by_state (state_in k.contexts n) refl
@@ -73,7 +73,7 @@ chase_same k l S P b n p =
     by_met i None is none = tt
     by_met i (Some x) is none = stays_same k l S P b x (way_mine k S P b.side i n x p is) ∙ none
 
--- who is still doesn't act
+-- a context that is still doesn't act
 pub still_acts : (cs : Contexts) (o : Option State) → is_still o ≡ true → acts_as cs o ≡ false
 still_acts cs (Some Parked) h = refl
 still_acts cs (Some Dead) h = refl
@@ -89,7 +89,7 @@ still_acts cs (Some (Granting new)) h = absurd (cc)
 still_acts cs (Some Replying) h = absurd (cc)
 still_acts cs (Some (Revoking range own)) h = absurd (cc)
 
--- who is still gives its turns to nobody who acts
+-- a context that is still gives its turns to none that acts
 still_none : (k : KernelState) (n : ℕ) → AreEdges k.contexts → is_still (state_in k.contexts n) ≡ true → acts k.contexts (chase k.contexts n) ≡ false
 still_none k n sound still = ap (acts k.contexts) ((chases_go_on k.contexts n sound).ends (by_stays (state_in k.contexts n) refl still)) ∙ still_acts k.contexts (state_in k.contexts n) still
   where
@@ -196,7 +196,7 @@ foremost_ranked k rs =
     units [] = tt
     units (x ∷ xs) = (tt, units xs)
 
--- of the side, with a budget, and so is who acts
+-- of the side, with a budget, and so is the context that acts
 abbrev pub IsPaying : KernelState → (ℕ → Type 0) → Rank → Type 0
 IsPaying k P r = P r.sc × IsSome (budget_at k r.sc) × P r.actor
 
@@ -208,7 +208,7 @@ best_same k l P C t rs all =
 
 -- ON A PROCESSOR OF THE SIDE'S
 
--- a scheduling context of such a processor is the side's, or gives its turns to nobody
+-- a scheduling context of such a processor is the side's, or gives its turns to none
 whose : (k : KernelState) (S P C : ℕ → Type 0) → IsSound k → IsSide k S P → IsAtHome k S P C → (n ec cpu priority quantum : ℕ) → slice_get k.objects n ≡ Some (Sc ec cpu priority quantum) → C cpu →
     (P n × P ec) ⊎ (acts k.contexts (chase k.contexts ec) ≡ false)
 whose k S P C sound side home n ec cpu priority quantum is c = by_object (slice_get k.objects ec) refl (at_index (Refers k.objects) k.objects n (Sc ec cpu priority quantum) sound.kept.tables.refer is)
@@ -333,7 +333,7 @@ pub choice_ranked : (k : KernelState) (cpu : ℕ) → choice k cpu ≡ option_ma
 unfolding choice
 choice_ranked k cpu = ap foremost (candidates_ranked k cpu 0 k.objects) ∙ foremost_ranked k (listed (rank_of k cpu) 0 k.objects)
 
--- in both states the same one is chosen, by the same scheduling context, or none in either
+-- in both states the same context is chosen, by the same scheduling context, or none in either
 pub record ChosenSame (k l : KernelState) (P : ℕ → Type 0) (cpu : ℕ) : Type 0 where
   pub rank : Option Rank
   pub first : choice k cpu ≡ option_map (stamped k) rank

@@ -21,6 +21,7 @@ use Rattle.nova_model.specs.Calls.{admitted, exit_admitted}
 use Rattle.nova_model.specs.Capabilities.{call_right, control_right, down_right, event_right, is_ec, is_pt, is_sc, is_sm, named, up_right}
 use Rattle.nova_model.specs.Deeds.{deed, deed_in, instruction, mark_in, ready, signalled, stepping}
 use Rattle.nova_model.specs.Delegations.{covers}
+use Rattle.nova_model.specs.Edges.{is_giving}
 use Rattle.nova_model.specs.Exits.{exit_at, exit_portal, exit_to, exits}
 use Rattle.nova_model.specs.Hypercalls.{and_then, called, deadline_after, downed_by, downed_within, hypercall, or_refuses, replied, row, ticks_in, unless, upped_by}
 use Rattle.nova_model.specs.Portals.{handler_of, identifier, ip_of, mtd_in}
@@ -45,7 +46,7 @@ use Rattle.nova_model.specs.declared.times.Deadline.{Deadline}
 use Rattle.law_turns.specs.Asked.{IsCalling}
 use Rattle.law_integrity.specs.Rights.{Again, AtCall}
 use Rattle.law_integrity.proofs.Confining.{waits_edge}
-use Rattle.law_flow.specs.Flow.{HasSameClock, IsAtWork, IsCallAtWork, is_at_work}
+use Rattle.law_flow.specs.Flow.{HasSameClock, IsAtWork, IsCallAtWork, is_at_work, is_revoking}
 use Rattle.law_flow.proofs.Seeing.{Both, admitted_same, base_same, caller_same, context_same, exit_admitted_same, handler_mine, handler_same, identifier_same, instruction_same, ip_same, local_same, message_same, mtd_same, named_mine, named_same, pd_same, processor_same, semaphore_same, thread_same, told_held, told_of}
 
 -- CALLS
@@ -74,9 +75,9 @@ ticks_same (Some b) (Some c) h = let same : b.ticks ≡ c.ticks = cc in same
 within_same : (sm ticks : ℕ) (d e : Deadline) (a : Down) → d ≡ e → downed_within sm ticks d a ≡ downed_within sm ticks e a
 within_same sm ticks d e a same = ap (λ (x : Deadline). downed_within sm ticks x a) same
 
-row_same : (k l : KernelState) (S P : ℕ → Type 0) → Both k l S P → (ec : ℕ) → P ec → S (pd_of k ec) → (c : Call) → IsCallAtWork (HasSameClock k l ec) (Ok c) →
+row_same : (revoking : Type 0) (k l : KernelState) (S P : ℕ → Type 0) → Both k l S P → (ec : ℕ) → P ec → S (pd_of k ec) → (c : Call) → IsCallAtWork (HasSameClock k l ec) revoking (Ok c) →
     row l ec (pd_of k ec) c ≡ row k ec (pd_of k ec) c
-row_same k l S P b ec p s (asks.Call portal flag) works =
+row_same revoking k l S P b ec p s (asks.Call portal flag) works =
     ap₂ (λ (m : List ℕ) (o : Result ℕ Status). unless (not (has_counts m)) BadPar (and_then o (λ pt. called l ec pt (admitted l.contexts ec (handler_of l pt) flag))))
     (message_same k l S P b ec p s) (named_same k l S P b (pd_of k ec) is_pt call_right portal s)
     ∙ ap (unless (not (has_counts (message k ec))) BadPar) (next_by (named k (pd_of k ec) is_pt call_right portal) _ _ (λ pt is.
@@ -85,34 +86,34 @@ row_same k l S P b ec p s (asks.Call portal flag) works =
     ap (λ (n : ℕ). called l ec pt (admitted l.contexts ec n flag)) (handler_same k l S P b pt q)
     ∙ ap (called l ec pt) (admitted_same k l S P b ec (handler_of k pt) flag p h)
     ∙ called_same k l S P b ec pt p s q (admitted k.contexts ec (handler_of k pt) flag)))
-row_same k l S P b ec p s asks.Reply works =
+row_same revoking k l S P b ec p s asks.Reply works =
     ap₂ (λ (t : Bool) (m : List ℕ). unless (not t) BadPar (unless (not (has_counts m)) BadPar (replied l ec (context l ec).caller)))
     (local_same k l S P b ec p) (message_same k l S P b ec p s)
     ∙ ap (λ (r : Result Deed Status). unless (not (is_local_thread k ec)) BadPar (unless (not (has_counts (message k ec))) BadPar r))
     (ap (λ (x : EcState). replied l ec x.caller) (context_same k l S P b ec p s) ∙ replied_same k l S P b ec p s (context k ec).caller)
-row_same k l S P b ec p s (asks.Lookup range) works =
+row_same revoking k l S P b ec p s (asks.Lookup range) works =
     ap (λ (o : Option (Range × Rights)). Ok (deeds.Tells LOOKUP (word_of o)))
     (told_held (find (covers range.kind (pd_of k ec) range.base) l.delegations.list)
     ∙ ap (option_map told_of) (b.alike.spaces range.kind (pd_of k ec) range.base s)
     ∙ sym (told_held (find (covers range.kind (pd_of k ec) range.base) k.delegations.list)))
-row_same k l S P b ec p s (asks.EcCtrl whose) works =
+row_same revoking k l S P b ec p s (asks.EcCtrl whose) works =
     ap (λ (o : Result ℕ Status). and_then o (λ n. Ok (deeds.Recalls n))) (named_same k l S P b (pd_of k ec) is_ec control_right whose s)
-row_same k l S P b ec p s (asks.ScCtrl sc) works =
+row_same revoking k l S P b ec p s (asks.ScCtrl sc) works =
     ap (λ (o : Result ℕ Status). and_then o (λ n. Ok (deeds.Tells SC_CTRL (ticks_in (budget_at l n))))) (named_same k l S P b (pd_of k ec) is_sc control_right sc s)
     ∙ next_by (named k (pd_of k ec) is_sc control_right sc) _ _ (λ n is.
     ap (λ (t : ℕ). Ok (deeds.Tells SC_CTRL t))
     (ticks_same (budget_at l n) (budget_at k n) (b.alike.ticks n (named_mine k l S P b (pd_of k ec) is_sc control_right sc n s is))))
-row_same k l S P b ec p s (asks.PtCtrl pt number) works =
+row_same revoking k l S P b ec p s (asks.PtCtrl pt number) works =
     ap (λ (o : Result ℕ Status). and_then o (λ n. Ok (deeds.Names n number))) (named_same k l S P b (pd_of k ec) is_pt control_right pt s)
-row_same k l S P b ec p s (asks.SmCtrl sm act.Up) works =
+row_same revoking k l S P b ec p s (asks.SmCtrl sm act.Up) works =
     ap (λ (o : Result ℕ Status). and_then o (λ n. upped_by n (woken (semaphore l.semaphores n)))) (named_same k l S P b (pd_of k ec) is_sm up_right sm s)
     ∙ next_by (named k (pd_of k ec) is_sm up_right sm) _ _ (λ n is.
     ap (λ (x : Semaphore). upped_by n (woken x)) (semaphore_same k l S P b n (named_mine k l S P b (pd_of k ec) is_sm up_right sm n s is)))
-row_same k l S P b ec p s (asks.SmCtrl sm act.Down) works =
+row_same revoking k l S P b ec p s (asks.SmCtrl sm act.Down) works =
     ap (λ (o : Result ℕ Status). and_then o (λ n. Ok (downed_by n (answer_of (semaphore l.semaphores n))))) (named_same k l S P b (pd_of k ec) is_sm down_right sm s)
     ∙ next_by (named k (pd_of k ec) is_sm down_right sm) _ _ (λ n is.
     ap (λ (x : Semaphore). Ok (downed_by n (answer_of x))) (semaphore_same k l S P b n (named_mine k l S P b (pd_of k ec) is_sm down_right sm n s is)))
-row_same k l S P b ec p s (asks.SmCtrl sm (act.DownWithin ticks)) works =
+row_same revoking k l S P b ec p s (asks.SmCtrl sm (act.DownWithin ticks)) works =
     ap (λ (o : Result ℕ Status). and_then o (λ n. downed_within n ticks (deadline_after l ec n ticks) (answer_of (semaphore l.semaphores n)))) (named_same k l S P b (pd_of k ec) is_sm down_right sm s)
     ∙ next_by (named k (pd_of k ec) is_sm down_right sm) _ _ (λ n is.
     ap₂ (λ (x : Semaphore) (d : Deadline). downed_within n ticks d (answer_of x))
@@ -122,22 +123,22 @@ row_same k l S P b ec p s (asks.SmCtrl sm (act.DownWithin ticks)) works =
     until n =
         ap (λ (c : ℕ). record { cpu = c; sm = n; at = clock l.times c + 1 + ticks }) (processor_same k l S P b ec p)
         ∙ ap (λ (now : ℕ). record { cpu = processor_of k ec; sm = n; at = now + 1 + ticks }) works
-row_same k l S P b ec p s (asks.CreatePd target pd first) works = absurd works
-row_same k l S P b ec p s (asks.CreateEc target pd cpu kind sp event) works = absurd works
-row_same k l S P b ec p s (asks.CreateSc target pd whose quantum priority) works = absurd works
-row_same k l S P b ec p s (asks.CreatePt target pd handler mtd ip) works = absurd works
-row_same k l S P b ec p s (asks.CreateSm target pd count) works = absurd works
-row_same k l S P b ec p s (asks.Revoke range own) works = absurd works
+row_same revoking k l S P b ec p s (asks.CreatePd target pd first) works = absurd works
+row_same revoking k l S P b ec p s (asks.CreateEc target pd cpu kind sp event) works = absurd works
+row_same revoking k l S P b ec p s (asks.CreateSc target pd whose quantum priority) works = absurd works
+row_same revoking k l S P b ec p s (asks.CreatePt target pd handler mtd ip) works = absurd works
+row_same revoking k l S P b ec p s (asks.CreateSm target pd count) works = absurd works
+row_same revoking k l S P b ec p s (asks.Revoke range own) works = refl
 
-hypercall_same : (k l : KernelState) (S P : ℕ → Type 0) → Both k l S P → (ec : ℕ) → P ec → S (pd_of k ec) → IsCallAtWork (HasSameClock k l ec) (call_of (context k ec).regs) →
+hypercall_same : (revoking : Type 0) (k l : KernelState) (S P : ℕ → Type 0) → Both k l S P → (ec : ℕ) → P ec → S (pd_of k ec) → IsCallAtWork (HasSameClock k l ec) revoking (call_of (context k ec).regs) →
     hypercall l ec (pd_of l ec) (context l ec).regs ≡ hypercall k ec (pd_of k ec) (context k ec).regs
-hypercall_same k l S P b ec p s works =
+hypercall_same revoking k l S P b ec p s works =
     ap₂ (λ (pd : ℕ) (x : EcState). hypercall l ec pd x.regs) (pd_same k l S P b ec p) (context_same k l S P b ec p s)
     ∙ ap (or_refuses (reg (context k ec).regs 17)) (by_call (call_of (context k ec).regs) works)
   where
-    by_call : (o : Result Call Status) → IsCallAtWork (HasSameClock k l ec) o → and_then o (row l ec (pd_of k ec)) ≡ and_then o (row k ec (pd_of k ec))
+    by_call : (o : Result Call Status) → IsCallAtWork (HasSameClock k l ec) revoking o → and_then o (row l ec (pd_of k ec)) ≡ and_then o (row k ec (pd_of k ec))
     by_call (Err status) is = refl
-    by_call (Ok c) is = row_same k l S P b ec p s c is
+    by_call (Ok c) is = row_same revoking k l S P b ec p s c is
 
 -- EXITS
 
@@ -180,15 +181,15 @@ calling k ec reason q0 q1 state none at h =
       raises = at ∙ ap (λ (n : ℕ). Raised n q0 q1) (eqb-true reason environment_call parts.0);
     }
 
-in_same : (k l : KernelState) (S P : ℕ → Type 0) → Both k l S P → (ec : ℕ) → P ec → S (pd_of k ec) → IsAtWork (HasSameClock k l ec) k ec → (t : State) → (context k ec).state ≡ t → is_at_work t ≡ true →
-    deed_in l ec t ≡ deed_in k ec t
-in_same k l S P b ec p s works Ready is calm =
+in_same : (giving revoking : Type 0) (k l : KernelState) (S P : ℕ → Type 0) → Both k l S P → (ec : ℕ) → P ec → S (pd_of k ec) → IsAtWork (HasSameClock k l ec) giving revoking k ec → (t : State) → (context k ec).state ≡ t → is_at_work t ≡ true →
+    is_giving t ≡ false → is_revoking t ≡ false → deed_in l ec t ≡ deed_in k ec t
+in_same giving revoking k l S P b ec p s works Ready is calm none_given unrevoking =
     ap (λ (x : EcState). ready l ec x.recall) (context_same k l S P b ec p s) ∙ by_recall (context k ec).recall refl
   where
     by_signal : (context k ec).recall ≡ false → (reason q0 q1 : ℕ) → instruction k ec ≡ Raised reason q0 q1 → (t : Bool) → ((reason == environment_call) && is_thread k ec) ≡ t →
         signalled l ec reason q0 q1 t ≡ signalled k ec reason q0 q1 t
     by_signal none reason q0 q1 at false h = refl
-    by_signal none reason q0 q1 at true h = hypercall_same k l S P b ec p s (works.calls (AtCall (calling k ec reason q0 q1 is none at h)))
+    by_signal none reason q0 q1 at true h = hypercall_same revoking k l S P b ec p s (works.calls (AtCall (calling k ec reason q0 q1 is none at h)))
 
     by_once : (context k ec).recall ≡ false → (o : Once) → instruction k ec ≡ o → stepping l ec o ≡ stepping k ec o
     by_once none (Went regs store) at = refl
@@ -199,24 +200,25 @@ in_same k l S P b ec p s works Ready is calm =
     by_recall : (t : Bool) → (context k ec).recall ≡ t → ready l ec t ≡ ready k ec t
     by_recall true recalled = refl
     by_recall false none = ap (stepping l ec) (instruction_same k l S P b ec p s) ∙ by_once none (instruction k ec) refl
-in_same k l S P b ec p s works (Exiting reason q0 q1) is calm = exits_same k l S P b ec reason q0 q1 p s
-in_same k l S P b ec p s works (Sending reason q0 q1 handler) is calm = exits_same k l S P b ec reason q0 q1 p s
-in_same k l S P b ec p s works (Calling handler) is calm =
+in_same giving revoking k l S P b ec p s works (Exiting reason q0 q1) is calm none_given unrevoking = exits_same k l S P b ec reason q0 q1 p s
+in_same giving revoking k l S P b ec p s works (Sending reason q0 q1 handler) is calm none_given unrevoking = exits_same k l S P b ec reason q0 q1 p s
+in_same giving revoking k l S P b ec p s works (Calling handler) is calm none_given unrevoking =
     ap (λ (o : Option (ℕ × Mark)). deeds.Aborts handler (mark_in o)) (caller_same k l S P b handler (b.side.edges ec handler p (waits_edge k ec handler is)))
-in_same k l S P b ec p s works (Helping handler) is calm = hypercall_same k l S P b ec p s (works.calls (Again handler is))
-in_same k l S P b ec p s works (Granting new) is calm = absurd (cc)
-in_same k l S P b ec p s works Replying is calm = absurd (cc)
-in_same k l S P b ec p s works (Revoking range own) is calm = absurd (cc)
-in_same k l S P b ec p s works other is calm = refl
+in_same giving revoking k l S P b ec p s works (Helping handler) is calm none_given unrevoking = hypercall_same revoking k l S P b ec p s (works.calls (Again handler is))
+in_same giving revoking k l S P b ec p s works (Granting new) is calm none_given unrevoking = absurd (cc)
+in_same giving revoking k l S P b ec p s works Replying is calm none_given unrevoking = absurd (cc)
+in_same giving revoking k l S P b ec p s works (Revoking range own) is calm none_given unrevoking = absurd (cc)
+in_same giving revoking k l S P b ec p s works other is calm none_given unrevoking = refl
 
-pub deed_same : (k l : KernelState) (S P : ℕ → Type 0) → Both k l S P → (ec : ℕ) → P ec → S (pd_of k ec) → IsAtWork (HasSameClock k l ec) k ec → deed l ec ≡ deed k ec
+-- one that gives no items and takes nothing away does the same
+pub deed_same : (giving revoking : Type 0) (k l : KernelState) (S P : ℕ → Type 0) → Both k l S P → (ec : ℕ) → P ec → S (pd_of k ec) → IsAtWork (HasSameClock k l ec) giving revoking k ec → is_giving (context k ec).state ≡ false → is_revoking (context k ec).state ≡ false → deed l ec ≡ deed k ec
 unfolding deed
-deed_same k l S P b ec p s works =
-    ap (λ (x : EcState). deed_in l ec x.state) (context_same k l S P b ec p s) ∙ in_same k l S P b ec p s works (context k ec).state refl works.state
+deed_same giving revoking k l S P b ec p s works none_given unrevoking =
+    ap (λ (x : EcState). deed_in l ec x.state) (context_same k l S P b ec p s) ∙ in_same giving revoking k l S P b ec p s works (context k ec).state refl works.state none_given unrevoking
 
 -- TO WHOM IT IS DONE
 
--- The deed makes no object, no derivation and no revoke, and whom it calls, waits for, recalls, wakes or answers is of the side.
+-- The deed makes no object, and makes and takes away no derivation; and whom it calls, waits for, recalls, wakes or answers is of the side.
 abbrev pub IsOwn : Type 0 → (ℕ → Type 0) → Deed → Type 0
 IsOwn timed P (deeds.Waits handler reason q0 q1) = P handler
 IsOwn timed P (deeds.Sends handler ip number mtd reason q0 q1) = P handler
@@ -233,11 +235,7 @@ IsOwn timed P (deeds.Blocks sm (Some until)) = P sm × timed
 IsOwn timed P (deeds.Makes call target made) = ⊥
 IsOwn timed P (deeds.Opens target domain) = ⊥
 IsOwn timed P (deeds.Gives child cursor) = ⊥
-IsOwn timed P (deeds.Skips reason place cursor) = ⊥
-IsOwn timed P (deeds.Finishes item end words after) = ⊥
-IsOwn timed P (deeds.Revokes range own) = ⊥
 IsOwn timed P (deeds.Removes leaf) = ⊥
-IsOwn timed P deeds.Returns = ⊥
 IsOwn timed P other = Unit {0}
 
 abbrev OwnOr : Type 0 → (ℕ → Type 0) → Result Deed Status → Type 0
@@ -257,11 +255,11 @@ called_own timed k P ec pt h (Refused status) = tt
 called_own timed k P ec pt h Help = h
 called_own timed k P ec pt h Send = h
 
-row_own : (timed : Type 0) (k l : KernelState) (S P : ℕ → Type 0) → Both k l S P → (ec : ℕ) → P ec → S (pd_of k ec) → (c : Call) → IsCallAtWork timed (Ok c) → OwnOr timed P (row k ec (pd_of k ec) c)
-row_own timed k l S P b ec p s (asks.Call portal flag) works =
+row_own : (timed revoking : Type 0) (k l : KernelState) (S P : ℕ → Type 0) → Both k l S P → (ec : ℕ) → P ec → S (pd_of k ec) → (c : Call) → IsCallAtWork timed revoking (Ok c) → OwnOr timed P (row k ec (pd_of k ec) c)
+row_own timed revoking k l S P b ec p s (asks.Call portal flag) works =
     unless_own timed P (not (has_counts (message k ec))) BadPar _ (next_own timed P (named k (pd_of k ec) is_pt call_right portal) _ (λ pt is.
     called_own timed k P ec pt (handler_mine k l S P b (pd_of k ec) call_right portal pt s is) (admitted k.contexts ec (handler_of k pt) flag)))
-row_own timed k l S P b ec p s asks.Reply works =
+row_own timed revoking k l S P b ec p s asks.Reply works =
     unless_own timed P (not (is_local_thread k ec)) BadPar _ (unless_own timed P (not (has_counts (message k ec))) BadPar _ (by_caller (context k ec).caller (serves_mine k l S P b ec p)))
   where
     by_caller : (o : Option (ℕ × Mark)) → ((caller : ℕ) (mark : Mark) → o ≡ Some (caller, mark) → P caller) → OwnOr timed P (replied k ec o)
@@ -275,13 +273,13 @@ row_own timed k l S P b ec p s asks.Reply works =
             option_and_then (λ (x : EcState). x.caller) o ≡ Some (caller, mark)
         by_entry None h = absurd (cc)
         by_entry (Some x) h = h
-row_own timed k l S P b ec p s (asks.Lookup range) works = tt
-row_own timed k l S P b ec p s (asks.EcCtrl whose) works =
+row_own timed revoking k l S P b ec p s (asks.Lookup range) works = tt
+row_own timed revoking k l S P b ec p s (asks.EcCtrl whose) works =
     next_own timed P (named k (pd_of k ec) is_ec control_right whose) _ (λ n is. named_mine k l S P b (pd_of k ec) is_ec control_right whose n s is)
-row_own timed k l S P b ec p s (asks.ScCtrl sc) works = next_own timed P (named k (pd_of k ec) is_sc control_right sc) _ (λ n is. tt)
-row_own timed k l S P b ec p s (asks.PtCtrl pt number) works =
+row_own timed revoking k l S P b ec p s (asks.ScCtrl sc) works = next_own timed P (named k (pd_of k ec) is_sc control_right sc) _ (λ n is. tt)
+row_own timed revoking k l S P b ec p s (asks.PtCtrl pt number) works =
     next_own timed P (named k (pd_of k ec) is_pt control_right pt) _ (λ n is. named_mine k l S P b (pd_of k ec) is_pt control_right pt n s is)
-row_own timed k l S P b ec p s (asks.SmCtrl sm act.Up) works =
+row_own timed revoking k l S P b ec p s (asks.SmCtrl sm act.Up) works =
     next_own timed P (named k (pd_of k ec) is_sm up_right sm) _ (λ n is.
     by_queue n (named_mine k l S P b (pd_of k ec) is_sm up_right sm n s is) (semaphore k.semaphores n).count (semaphore k.semaphores n).waiting (b.side.queues n))
   where
@@ -292,39 +290,39 @@ row_own timed k l S P b ec p s (asks.SmCtrl sm act.Up) works =
         by_count true = tt
         by_count false = q
     by_queue n q count (w ∷ queue) mine = (q, mine w q (grind (arith)))
-row_own timed k l S P b ec p s (asks.SmCtrl sm act.Down) works =
+row_own timed revoking k l S P b ec p s (asks.SmCtrl sm act.Down) works =
     next_own timed P (named k (pd_of k ec) is_sm down_right sm) _ (λ n is.
     by_answer n (named_mine k l S P b (pd_of k ec) is_sm down_right sm n s is) (answer_of (semaphore k.semaphores n)))
   where
     by_answer : (n : ℕ) → P n → (a : Down) → IsOwn timed P (downed_by n a)
     by_answer n q down.Done = q
     by_answer n q down.Blocked = q
-row_own timed k l S P b ec p s (asks.SmCtrl sm (act.DownWithin ticks)) works =
+row_own timed revoking k l S P b ec p s (asks.SmCtrl sm (act.DownWithin ticks)) works =
     next_own timed P (named k (pd_of k ec) is_sm down_right sm) _ (λ n is.
     by_answer n (named_mine k l S P b (pd_of k ec) is_sm down_right sm n s is) (answer_of (semaphore k.semaphores n)))
   where
     by_answer : (n : ℕ) → P n → (a : Down) → OwnOr timed P (downed_within n ticks (deadline_after k ec n ticks) a)
     by_answer n q down.Done = q
     by_answer n q down.Blocked = unless_own timed P (ticks == 0) Timeout _ (q, works)
-row_own timed k l S P b ec p s (asks.CreatePd target pd first) works = absurd works
-row_own timed k l S P b ec p s (asks.CreateEc target pd cpu kind sp event) works = absurd works
-row_own timed k l S P b ec p s (asks.CreateSc target pd whose quantum priority) works = absurd works
-row_own timed k l S P b ec p s (asks.CreatePt target pd handler mtd ip) works = absurd works
-row_own timed k l S P b ec p s (asks.CreateSm target pd count) works = absurd works
-row_own timed k l S P b ec p s (asks.Revoke range own) works = absurd works
+row_own timed revoking k l S P b ec p s (asks.CreatePd target pd first) works = absurd works
+row_own timed revoking k l S P b ec p s (asks.CreateEc target pd cpu kind sp event) works = absurd works
+row_own timed revoking k l S P b ec p s (asks.CreateSc target pd whose quantum priority) works = absurd works
+row_own timed revoking k l S P b ec p s (asks.CreatePt target pd handler mtd ip) works = absurd works
+row_own timed revoking k l S P b ec p s (asks.CreateSm target pd count) works = absurd works
+row_own timed revoking k l S P b ec p s (asks.Revoke range own) works = tt
 
-hypercall_own : (timed : Type 0) (k l : KernelState) (S P : ℕ → Type 0) → Both k l S P → (ec : ℕ) → P ec → S (pd_of k ec) → IsCallAtWork timed (call_of (context k ec).regs) →
+hypercall_own : (timed revoking : Type 0) (k l : KernelState) (S P : ℕ → Type 0) → Both k l S P → (ec : ℕ) → P ec → S (pd_of k ec) → IsCallAtWork timed revoking (call_of (context k ec).regs) →
     IsOwn timed P (hypercall k ec (pd_of k ec) (context k ec).regs)
-hypercall_own timed k l S P b ec p s works =
+hypercall_own timed revoking k l S P b ec p s works =
     by_answer (and_then (call_of (context k ec).regs) (row k ec (pd_of k ec))) (by_call (call_of (context k ec).regs) works)
   where
     by_answer : (r : Result Deed Status) → OwnOr timed P r → IsOwn timed P (or_refuses (reg (context k ec).regs 17) r)
     by_answer (Ok d) own = own
     by_answer (Err status) own = tt
 
-    by_call : (o : Result Call Status) → IsCallAtWork timed o → OwnOr timed P (and_then o (row k ec (pd_of k ec)))
+    by_call : (o : Result Call Status) → IsCallAtWork timed revoking o → OwnOr timed P (and_then o (row k ec (pd_of k ec)))
     by_call (Err status) is = tt
-    by_call (Ok c) is = row_own timed k l S P b ec p s c is
+    by_call (Ok c) is = row_own timed revoking k l S P b ec p s c is
 
 exits_own : (timed : Type 0) (k l : KernelState) (S P : ℕ → Type 0) → Both k l S P → (ec reason q0 q1 : ℕ) → P ec → S (pd_of k ec) → IsOwn timed P (exits k ec reason q0 q1)
 exits_own timed k l S P b ec reason q0 q1 p s = by_portal (exit_portal k ec reason) refl
@@ -339,14 +337,14 @@ exits_own timed k l S P b ec reason q0 q1 p s = by_portal (exit_portal k ec reas
     by_portal (Ok pt) is =
         by_admit pt (handler_mine k l S P b (pd_of k ec) event_right (plus (event_base k ec) reason) pt s is) (exit_admitted k.contexts ec (handler_of k pt))
 
-in_own : (timed : Type 0) (k l : KernelState) (S P : ℕ → Type 0) → Both k l S P → (ec : ℕ) → P ec → S (pd_of k ec) → IsAtWork timed k ec → (t : State) → (context k ec).state ≡ t → is_at_work t ≡ true →
-    IsOwn timed P (deed_in k ec t)
-in_own timed k l S P b ec p s works Ready is calm = by_recall (context k ec).recall refl
+in_own : (timed giving revoking : Type 0) (k l : KernelState) (S P : ℕ → Type 0) → Both k l S P → (ec : ℕ) → P ec → S (pd_of k ec) → IsAtWork timed giving revoking k ec → (t : State) → (context k ec).state ≡ t → is_at_work t ≡ true →
+    is_giving t ≡ false → is_revoking t ≡ false → IsOwn timed P (deed_in k ec t)
+in_own timed giving revoking k l S P b ec p s works Ready is calm none_given unrevoking = by_recall (context k ec).recall refl
   where
     by_signal : (context k ec).recall ≡ false → (reason q0 q1 : ℕ) → instruction k ec ≡ Raised reason q0 q1 → (t : Bool) → ((reason == environment_call) && is_thread k ec) ≡ t →
         IsOwn timed P (signalled k ec reason q0 q1 t)
     by_signal none reason q0 q1 at false h = tt
-    by_signal none reason q0 q1 at true h = hypercall_own timed k l S P b ec p s (works.calls (AtCall (calling k ec reason q0 q1 is none at h)))
+    by_signal none reason q0 q1 at true h = hypercall_own timed revoking k l S P b ec p s (works.calls (AtCall (calling k ec reason q0 q1 is none at h)))
 
     by_once : (context k ec).recall ≡ false → (o : Once) → instruction k ec ≡ o → IsOwn timed P (stepping k ec o)
     by_once none (Went regs store) at = tt
@@ -355,14 +353,14 @@ in_own timed k l S P b ec p s works Ready is calm = by_recall (context k ec).rec
     by_recall : (t : Bool) → (context k ec).recall ≡ t → IsOwn timed P (ready k ec t)
     by_recall true recalled = tt
     by_recall false none = by_once none (instruction k ec) refl
-in_own timed k l S P b ec p s works (Exiting reason q0 q1) is calm = exits_own timed k l S P b ec reason q0 q1 p s
-in_own timed k l S P b ec p s works (Sending reason q0 q1 handler) is calm = exits_own timed k l S P b ec reason q0 q1 p s
-in_own timed k l S P b ec p s works (Helping handler) is calm = hypercall_own timed k l S P b ec p s (works.calls (Again handler is))
-in_own timed k l S P b ec p s works (Granting new) is calm = absurd (cc)
-in_own timed k l S P b ec p s works Replying is calm = absurd (cc)
-in_own timed k l S P b ec p s works (Revoking range own) is calm = absurd (cc)
-in_own timed k l S P b ec p s works other is calm = tt
+in_own timed giving revoking k l S P b ec p s works (Exiting reason q0 q1) is calm none_given unrevoking = exits_own timed k l S P b ec reason q0 q1 p s
+in_own timed giving revoking k l S P b ec p s works (Sending reason q0 q1 handler) is calm none_given unrevoking = exits_own timed k l S P b ec reason q0 q1 p s
+in_own timed giving revoking k l S P b ec p s works (Helping handler) is calm none_given unrevoking = hypercall_own timed revoking k l S P b ec p s (works.calls (Again handler is))
+in_own timed giving revoking k l S P b ec p s works (Granting new) is calm none_given unrevoking = absurd (cc)
+in_own timed giving revoking k l S P b ec p s works Replying is calm none_given unrevoking = absurd (cc)
+in_own timed giving revoking k l S P b ec p s works (Revoking range own) is calm none_given unrevoking = absurd (cc)
+in_own timed giving revoking k l S P b ec p s works other is calm none_given unrevoking = tt
 
-pub deed_own : (timed : Type 0) (k l : KernelState) (S P : ℕ → Type 0) → Both k l S P → (ec : ℕ) → P ec → S (pd_of k ec) → IsAtWork timed k ec → IsOwn timed P (deed k ec)
+pub deed_own : (timed giving revoking : Type 0) (k l : KernelState) (S P : ℕ → Type 0) → Both k l S P → (ec : ℕ) → P ec → S (pd_of k ec) → IsAtWork timed giving revoking k ec → is_giving (context k ec).state ≡ false → is_revoking (context k ec).state ≡ false → IsOwn timed P (deed k ec)
 unfolding deed
-deed_own timed k l S P b ec p s works = in_own timed k l S P b ec p s works (context k ec).state refl works.state
+deed_own timed giving revoking k l S P b ec p s works none_given unrevoking = in_own timed giving revoking k l S P b ec p s works (context k ec).state refl works.state none_given unrevoking

@@ -35,14 +35,15 @@ use Rattle.law_integrity.proofs.Confining.{member_pd}
 use Rattle.law_integrity.proofs.Edges.{at_index}
 use Rattle.law_integrity.proofs.Homes.{reached_homed}
 use Rattle.law_integrity.proofs.Resting.{IsMadeNow, acts_in, holds_made, second_after}
-use Rattle.law_flow.specs.Flow.{AreAtWork, IsPartitioned, IsAtWork, own_turn}
+use Rattle.law_flow.specs.Flow.{AreAtWork, DerivesWithin, IsPartitioned, IsAtWork, own_turn, RevokesNothing}
 use Rattle.law_flow.specs.Processors.{AreAtHome, IsAtHome, IsDivided, IsStill, is_still}
 use Rattle.law_flow.proofs.Away.{away_next, home_next}
-use Rattle.law_flow.proofs.Deciding.{deed_own}
-use Rattle.law_flow.proofs.Doing.{made_none}
+use Rattle.law_flow.proofs.Pairs.{first_made}
+use Rattle.law_flow.proofs.Within.{own_at}
 use Rattle.law_flow.proofs.Tables.{unjoined}
-use Rattle.law_flow.proofs.Guarding.{alarm_was, own_from}
-use Rattle.law_flow.proofs.Turns.{alike_itself, own_is, own_there, own_turned}
+use Rattle.law_flow.proofs.Guarding.{alarm_was, others_derive, own_from}
+use Rattle.law_flow.proofs.Own.{own_derives_on}
+use Rattle.law_flow.proofs.Turns.{own_is, own_turned}
 
 -- WHO IS NEITHER'S IS STILL
 
@@ -89,19 +90,19 @@ at_home_of s before S P C T part divided = record {
 abbrev CreatesNothing : KernelState → (ℕ → Type 0) → Type 0
 CreatesNothing k T = (pd : ℕ) → T pd → MayCreate k pd → ⊥
 
-own_objects : (timed : Type 0) (s : Scenario) (before : List ℕ) (S P : ℕ → Bool) (T : ℕ → Type 0) (cpu ec sc : ℕ) → IsPartitioned (run (boot s) before) (Of S) T (Of P) →
-    own_turn S (run (boot s) before) cpu ≡ Some (ec, sc) → IsAtWork timed (run (boot s) before) ec → (after (run (boot s) before) cpu).objects ≡ (run (boot s) before).objects
-own_objects timed s before S P T cpu ec sc c own works =
+own_objects : (timed : Type 0) (revokes : Bool) (s : Scenario) (before : List ℕ) (S P : ℕ → Bool) (T : ℕ → Type 0) (cpu ec sc : ℕ) → IsPartitioned (run (boot s) before) (Of S) T (Of P) →
+    own_turn S (run (boot s) before) cpu ≡ Some (ec, sc) → IsAtWork timed (RevokesNothing (run (boot s) before) (Of S)) (revokes ≡ true) (run (boot s) before) ec → (revokes ≡ true → DerivesWithin (run (boot s) before) (Of S)) → (after (run (boot s) before) cpu).objects ≡ (run (boot s) before).objects
+own_objects timed revokes s before S P T cpu ec sc c own works within =
     let k = run (boot s) before in
     let sound = reached_sound s before in
     let its = own_is S k cpu ec sc own in
     let d = deed k ec in
-    let mine = deed_own timed k k (Of S) (Of P) (record { side = c.side; alike = alike_itself k S P; first = sound.kept.edges; second = sound.kept.edges }) ec (own_there S k (Of P) cpu ec sc sound c.side its) its.of works in
-    ap (λ (l : KernelState). l.objects) (own_turned S k cpu ec sc its) ∙ unjoined k.objects object_of (made_by d) (made_none timed (Of P) d mine)
+    let mine = own_at timed (revokes ≡ true) S P T k cpu ec sc sound c own works within in
+    ap (λ (l : KernelState). l.objects) (own_turned S k cpu ec sc its) ∙ unjoined k.objects object_of (made_by d) (first_made timed k (Of S) (Of P) d mine)
 
-pub same_objects : (s : Scenario) (before : List ℕ) (S P : ℕ → Bool) (T : ℕ → Type 0) (cpu : ℕ) → IsPartitioned (run (boot s) before) (Of S) T (Of P) → CreatesNothing (run (boot s) before) T →
-    ((ec sc : ℕ) → own_turn S (run (boot s) before) cpu ≡ Some (ec, sc) → IsAtWork (Unit {0}) (run (boot s) before) ec) → (after (run (boot s) before) cpu).objects ≡ (run (boot s) before).objects
-same_objects s before S P T cpu part none works = elim (comes (run (boot s) before) cpu) [
+pub same_objects : (revokes : Bool) (s : Scenario) (before : List ℕ) (S P : ℕ → Bool) (T : ℕ → Type 0) (cpu : ℕ) → IsPartitioned (run (boot s) before) (Of S) T (Of P) → CreatesNothing (run (boot s) before) T →
+    ((ec sc : ℕ) → own_turn S (run (boot s) before) cpu ≡ Some (ec, sc) → IsAtWork (Unit {0}) (RevokesNothing (run (boot s) before) (Of S)) (revokes ≡ true) (run (boot s) before) ec) → (revokes ≡ true → DerivesWithin (run (boot s) before) (Of S)) → (after (run (boot s) before) cpu).objects ≡ (run (boot s) before).objects
+same_objects revokes s before S P T cpu part none works within = elim (comes (run (boot s) before) cpu) [
   | Idles nobody quiet same answer ↦ ap (λ (l : KernelState). l.objects) same
   | Takes t e is state answer ↦ elim is [
     | Chosen d chosen its event ↦ by_member d.actor (ap (option_map (λ (d : Candidate). d.actor)) chosen) (acts_in k (Of S) T cpu d.actor part.apart.separate (ap (option_map (λ (d : Candidate). d.actor)) chosen))
@@ -115,7 +116,7 @@ same_objects s before S P T cpu part none works = elim (comes (run (boot s) befo
     by_own : (ec : ℕ) → Acts (run (boot s) before) cpu ec → S (pd_of (run (boot s) before) ec) ≡ true → (o : Option (ℕ × ℕ)) → own_turn S (run (boot s) before) cpu ≡ o →
         (after (run (boot s) before) cpu).objects ≡ (run (boot s) before).objects
     by_own ec acts_ mine None is = absurd (own_from S k cpu ec acts_ mine is)
-    by_own ec acts_ mine (Some pair) is = own_objects (Unit {0}) s before S P T cpu pair.0 pair.1 part is (works pair.0 pair.1 is)
+    by_own ec acts_ mine (Some pair) is = own_objects (Unit {0}) revokes s before S P T cpu pair.0 pair.1 part is (works pair.0 pair.1 is) within
 
     by_grows : (ec : ℕ) → IsMember (run (boot s) before) T ec → GrowsByRight (run (boot s) before) (after (run (boot s) before) cpu) ec → (after (run (boot s) before) cpu).objects ≡ (run (boot s) before).objects
     by_grows ec m (Keeps same delegations) = same
@@ -182,14 +183,25 @@ divided_next s before S P C T cpu part d same = record {
 
 -- ALONG TURNS
 
-pub home_along : (s : Scenario) (before turns : List ℕ) (S P C : ℕ → Bool) (T : ℕ → Type 0) → IsPartitioned (run (boot s) before) (Of S) T (Of P) → IsDivided (run (boot s) before) (Of S) T (Of P) (Of C) →
-    AreAtWork S (run (boot s) before) turns → AreAtHome S P C (run (boot s) before) turns
-home_along s before [] S P C T part divided works = tt
-home_along s before (cpu ∷ turns) S P C T part divided works = (
+-- what the others do makes nothing of what the side holds, and what it does itself stays within it
+derives_next : (revokes : Bool) (s : Scenario) (before : List ℕ) (S P : ℕ → Bool) (T : ℕ → Type 0) (cpu : ℕ) → IsPartitioned (run (boot s) before) (Of S) T (Of P) →
+    ((ec sc : ℕ) → own_turn S (run (boot s) before) cpu ≡ Some (ec, sc) → IsAtWork (Unit {0}) (RevokesNothing (run (boot s) before) (Of S)) (revokes ≡ true) (run (boot s) before) ec) →
+    (revokes ≡ true → DerivesWithin (run (boot s) before) (Of S)) → revokes ≡ true → DerivesWithin (after (run (boot s) before) cpu) (Of S)
+derives_next revokes s before S P T cpu part works within may = by_own (own_turn S (run (boot s) before) cpu) refl
+  where
+    by_own : (o : Option (ℕ × ℕ)) → own_turn S (run (boot s) before) cpu ≡ o → DerivesWithin (after (run (boot s) before) cpu) (Of S)
+    by_own None is = others_derive s before S P T cpu part is (within may)
+    by_own (Some pair) is = own_derives_on (Unit {0}) s before S P T cpu pair.0 pair.1 revokes part is (works pair.0 pair.1 is) within may
+
+pub home_along : (revokes : Bool) (s : Scenario) (before turns : List ℕ) (S P C : ℕ → Bool) (T : ℕ → Type 0) → IsPartitioned (run (boot s) before) (Of S) T (Of P) → IsDivided (run (boot s) before) (Of S) T (Of P) (Of C) →
+    (revokes ≡ true → DerivesWithin (run (boot s) before) (Of S)) → AreAtWork revokes S (run (boot s) before) turns → AreAtHome S P C (run (boot s) before) turns
+home_along revokes s before [] S P C T part divided within works = tt
+home_along revokes s before (cpu ∷ turns) S P C T part divided within works = (
   home,
-  subst (λ (l : KernelState). AreAtWork S l turns → AreAtHome S P C l turns) next
-      (home_along s (before ++ cpu ∷ []) turns S P C (more k T cpu) (subst (λ (l : KernelState). IsPartitioned l (Of S) (more k T cpu) (Of P)) (sym next) (by_test (C cpu) refl))
-      (subst (λ (l : KernelState). IsDivided l (Of S) (more k T cpu) (Of P) (Of C)) (sym next) (divided_next s before S P C T cpu part divided same))) works.1,
+  subst (λ (l : KernelState). (revokes ≡ true → DerivesWithin l (Of S)) → AreAtWork revokes S l turns → AreAtHome S P C l turns) next
+      (home_along revokes s (before ++ cpu ∷ []) turns S P C (more k T cpu) (subst (λ (l : KernelState). IsPartitioned l (Of S) (more k T cpu) (Of P)) (sym next) (by_test (C cpu) refl))
+      (subst (λ (l : KernelState). IsDivided l (Of S) (more k T cpu) (Of P) (Of C)) (sym next) (divided_next s before S P C T cpu part divided same)))
+      (derives_next revokes s before S P T cpu part works.0 within) works.1,
 )
   where
     k : KernelState
@@ -202,8 +214,8 @@ home_along s before (cpu ∷ turns) S P C T part divided works = (
     home = at_home_of s before S P C T part divided
 
     same : (after (run (boot s) before) cpu).objects ≡ (run (boot s) before).objects
-    same = same_objects s before S P T cpu part divided.creates works.0
+    same = same_objects revokes s before S P T cpu part divided.creates works.0 within
 
     by_test : (t : Bool) → C cpu ≡ t → IsPartitioned (after (run (boot s) before) cpu) (Of S) (more (run (boot s) before) T cpu) (Of P)
-    by_test true c = home_next s before S P C T cpu part home c works.0
+    by_test true c = home_next revokes s before S P C T cpu part home c works.0 within
     by_test false c = away_next s before S P C T cpu part home c

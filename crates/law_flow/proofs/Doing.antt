@@ -8,14 +8,14 @@ use Rattle.nova_guest.specs.Frames.{replaced}
 use Rattle.nova_guest.specs.declared.page.Page.{Page}
 use Rattle.nova_range.specs.Rights.{write_right}
 use Rattle.nova_range.specs.declared.status.Status.TheVariants.{Success}
-use Rattle.nova_utcb.specs.Messages.{copied, exited}
+use Rattle.nova_utcb.specs.Messages.{copied, exited, with_item}
 use Rattle.nova_model.specs.AddressSpaces.{AddressSpace, frame_for, stored_at}
 use Rattle.nova_model.specs.Creation.{budget_of, context_of, count_of, identifier_of, idle_semaphore, object_of, transfer_of, words_of}
-use Rattle.nova_model.specs.Deeds.{address_space, instruction}
+use Rattle.nova_model.specs.Deeds.{address_space, gave, instruction, skipped, transfer_after}
 use Rattle.nova_model.specs.Delegations.{covers, reach}
 use Rattle.nova_model.specs.Inputs.{store_of}
 use Rattle.nova_model.specs.Memory.{Memory, written, written_in}
-use Rattle.nova_model.specs.State.{Contexts, KernelState, context, ec_in, entry, message, pd_in, pd_of}
+use Rattle.nova_model.specs.State.{Contexts, KernelState, context, ec_in, entry, message, message_in, pd_in, pd_of, transfer}
 use Rattle.nova_model.specs.Turn.{budget_after, is_spent}
 use Rattle.nova_model.specs.declared.budget.Budget.{Budget}
 use Rattle.nova_model.specs.declared.context.EcState.{EcState}
@@ -24,12 +24,14 @@ use Rattle.nova_model.specs.declared.deed.Deed.{Deed}
 use Rattle.nova_model.specs.declared.deed.Deed.TheVariants as deeds
 use Rattle.nova_model.specs.declared.log.LogByte.{LogByte}
 use Rattle.nova_model.specs.declared.new_object.NewObject.{NewObject}
-use Rattle.law_forest.specs.Effects.{Answers, Branch, Edits, Parks, Resumes, all_edited, branch_by, branched, deadline_by, deadlines_with, edit_at, edits_by, effect, identifier_by, joined, made_by, memory_with, no_deadline, put, recalls_by, semaphore_by, semaphores_with, steps_by, store_by, store_words, transfer_by, words_by}
+use Rattle.nova_model.specs.declared.transfer.ItemWords.{ItemWords}
+use Rattle.nova_model.specs.declared.transfer.Transfer.{Transfer}
+use Rattle.law_forest.specs.Effects.{Answers, Branch, Edits, Parks, Resumes, all_edited, branch_by, branched, deadline_by, deadlines_with, edit_at, edits_by, effect, follows_by, identifier_by, item_words, joined, made_by, memory_with, no_deadline, put, recalls_by, semaphore_by, semaphores_with, steps_by, store_by, store_words, transfer_by, words_by}
 use Rattle.law_forest.specs.Turns.{Turning, budgets_paid, turned}
 use Rattle.law_turns.proofs.Links.{place}
 use Rattle.law_turns.proofs.Setting.{entry_itself, entry_other, set_length}
-use Rattle.law_flow.specs.Flow.{AreAlike, fronts, held_by, ticks_at}
-use Rattle.law_flow.proofs.Seeing.{Both, across, address_same, context_same, instruction_same, message_same, page_of, there_so}
+use Rattle.law_flow.specs.Flow.{AreAlike, fronts, held_by, origin_of, ticks_at}
+use Rattle.law_flow.proofs.Seeing.{Both, across, address_same, context_same, instruction_same, message_same, page_of, there_so, transfer_same}
 use Rattle.nova_objects.specs.declared.object.Object.{Object}
 use Rattle.law_flow.proofs.Deciding.{IsOwn}
 use Rattle.law_flow.proofs.Tables.{AreSame, change_same, deadlines_same, edits_alike, fronts_alike, named_so, put_same, set_same, unjoined}
@@ -117,7 +119,7 @@ pub record Seen (k : KernelState) (S : ℕ → Type 0) (frame : ℕ) : Type 0 wh
   pub leads : reach k.delegations.list pd page ≡ Some to
   pub its : to.frame ≡ frame
 
-frames_same : (k l : KernelState) (S P : ℕ → Type 0) → Both k l S P → AreSame (Seen k S) k.memory.ram l.memory.ram
+pub frames_same : (k l : KernelState) (S P : ℕ → Type 0) → Both k l S P → AreSame (Seen k S) k.memory.ram l.memory.ram
 frames_same k l S P b frame seen = subst (λ (n : ℕ). slice_get l.memory.ram n ≡ slice_get k.memory.ram n) seen.its (b.alike.frames seen.pd seen.page seen.to seen.of seen.leads)
 
 pub memory_same : (k l : KernelState) (S P : ℕ → Type 0) → Both k l S P → (ec : ℕ) → P ec → S (pd_of k ec) → (d : Deed) →
@@ -162,6 +164,13 @@ recalls_so whose None (Some y) h = absurd (cc)
 recalls_so whose (Some x) None h = absurd (cc)
 recalls_so whose (Some x) (Some y) h = refl
 
+-- the words of an item that ended
+items_alike : (k l : KernelState) (S P : ℕ → Type 0) → Both k l S P → (item : ℕ) (o : Option ItemWords) → AreSame (Shown k S P) (put k.messages (item_words k item o)) (put l.messages (item_words l item o))
+items_alike k l S P b item None = shown_messages k l S P b
+items_alike k l S P b item (Some w) =
+    set_same (Shown k S P) k.messages l.messages w.ec (Some (with_item (message k w.ec) item w.first w.second)) (Some (with_item (message l w.ec) item w.first w.second)) (shown_messages k l S P b)
+    (λ q. ap (λ (m : List ℕ). Some (with_item m item w.first w.second)) (message_same k l S P b w.ec q.0 q.1))
+
 edits_same : (timed : Type 0) (k l : KernelState) (S P : ℕ → Type 0) → Both k l S P → (ec : ℕ) → P ec → S (pd_of k ec) → (d : Deed) → IsOwn timed P d → edits_by l ec d ≡ edits_by k ec d
 edits_same timed k l S P b ec p s deeds.Steps own = ap (steps_by ec) (instruction_same k l S P b ec p s)
 edits_same timed k l S P b ec p s (deeds.Recalls whose) own =
@@ -171,7 +180,8 @@ edits_same timed k l S P b ec p s (deeds.Recalls whose) own =
     (fronts_alike P k.contexts l.contexts ((ec, Answers Success None) ∷ []) b.alike.fronts whose own)))
 edits_same timed k l S P b ec p s (deeds.Replies caller came true) own = refl
 edits_same timed k l S P b ec p s (deeds.Replies caller came false) own = ap (λ (m : List ℕ). (ec, Parks) ∷ (caller, Resumes came m) ∷ []) (message_same k l S P b ec p s)
-edits_same timed k l S P b ec p s (deeds.Finishes item end words after) own = absurd own
+edits_same timed k l S P b ec p s (deeds.Finishes item end words after) own =
+    ap (λ (o : Option (Option (List ℕ))). follows_by ec (message_in (entry o)) after) (items_alike k l S P b item words ec (p, s))
 edits_same timed k l S P b ec p s other own = refl
 
 words_alike : (timed : Type 0) (k l : KernelState) (S P : ℕ → Type 0) → Both k l S P → (ec : ℕ) → P ec → S (pd_of k ec) → (d : Deed) → IsOwn timed P d →
@@ -196,23 +206,31 @@ words_alike timed k l S P b ec p s (deeds.Replies caller mark.Call items) own =
     set_same (Shown k S P) k.messages l.messages caller (Some (copied (message k ec) (message k caller))) (Some (copied (message l ec) (message l caller))) (shown_messages k l S P b)
     (λ q. ap₂ (λ (m n : List ℕ). Some (copied m n)) (message_same k l S P b ec p s) (message_same k l S P b caller q.0 q.1))
 words_alike timed k l S P b ec p s (deeds.Replies caller mark.Exit items) own = shown_messages k l S P b
-words_alike timed k l S P b ec p s (deeds.Finishes item end words after) own = absurd own
+words_alike timed k l S P b ec p s (deeds.Finishes item end words after) own = items_alike k l S P b item words
 words_alike timed k l S P b ec p s other own = shown_messages k l S P b
 
--- it makes nothing, gives nothing and takes nothing
+-- how far they are with items
+pub transfers_alike : (k l : KernelState) (S P : ℕ → Type 0) → Both k l S P → (ec : ℕ) (d : Deed) → AreSame (Shown k S P) (put k.transfers (transfer_by k ec d)) (put l.transfers (transfer_by l ec d))
+transfers_alike k l S P b ec (deeds.Gives child cursor) =
+    set_same (Shown k S P) k.transfers l.transfers ec (Some (gave (transfer k ec) cursor)) (Some (gave (transfer l ec) cursor)) (λ m r. b.alike.transfers m r.0 r.1)
+    (λ q. ap (λ (t : Transfer). Some (gave t cursor)) (transfer_same k l S P b ec q.0 q.1))
+transfers_alike k l S P b ec (deeds.Skips reason place cursor) =
+    set_same (Shown k S P) k.transfers l.transfers ec (Some (skipped (transfer k ec) cursor)) (Some (skipped (transfer l ec) cursor)) (λ m r. b.alike.transfers m r.0 r.1)
+    (λ q. ap (λ (t : Transfer). Some (skipped t cursor)) (transfer_same k l S P b ec q.0 q.1))
+transfers_alike k l S P b ec (deeds.Finishes item end words after) = put_same (Shown k S P) k.transfers l.transfers (Some (ec, transfer_after item after)) (λ m r. b.alike.transfers m r.0 r.1)
+transfers_alike k l S P b ec other = λ m r. b.alike.transfers m r.0 r.1
+
+-- it makes nothing and takes nothing, and no range joins
 record IsQuiet (k : KernelState) (ec : ℕ) (d : Deed) : Type 0 where
   made : made_by d ≡ None
   branch : branch_by k ec d ≡ None
-  transfer : transfer_by k ec d ≡ None
 
 quiet : (timed : Type 0) (k : KernelState) (P : ℕ → Type 0) (ec : ℕ) (d : Deed) → IsOwn timed P d → IsQuiet k ec d
 quiet timed k P ec (deeds.Makes call target made) own = absurd own
 quiet timed k P ec (deeds.Opens target domain) own = absurd own
 quiet timed k P ec (deeds.Gives child cursor) own = absurd own
-quiet timed k P ec (deeds.Skips reason place cursor) own = absurd own
-quiet timed k P ec (deeds.Finishes item end words after) own = absurd own
 quiet timed k P ec (deeds.Removes leaf) own = absurd own
-quiet timed k P ec other own = record { made = refl; branch = refl; transfer = refl }
+quiet timed k P ec other own = record { made = refl; branch = refl }
 
 pub made_none : (timed : Type 0) (P : ℕ → Type 0) (d : Deed) → IsOwn timed P d → made_by d ≡ None
 made_none timed P (deeds.Makes call target made) own = absurd own
@@ -243,10 +261,10 @@ turned_alike timed k l S P b cpu other ec sc p s d own stirs others = record {
       (unjoined (put k.messages (words_by k ec d)) (λ (m : NewObject). words_of (object_of m)) (made_by d) ours.made)
       (unjoined (put l.messages (words_by l ec d)) (λ (m : NewObject). words_of (object_of m)) (made_by d) ours.made)
       (words_alike timed k l S P b ec p s d own) n (q, domain n its);
-  transfers = λ n q its. named_so (Shown k S P) k.transfers l.transfers _ _
-      (unjoined (put k.transfers (transfer_by k ec d)) (λ (m : NewObject). transfer_of (object_of m)) (made_by d) ours.made ∙ ap (put k.transfers) ours.transfer)
-      (unjoined (put l.transfers (transfer_by l ec d)) (λ (m : NewObject). transfer_of (object_of m)) (made_by d) ours.made ∙ ap (put l.transfers) theirs.transfer)
-      (λ m r. b.alike.transfers m r.0 r.1) n (q, domain n its);
+  transfers = λ n q its. named_so (Shown k S P) (put k.transfers (transfer_by k ec d)) (put l.transfers (transfer_by l ec d)) _ _
+      (unjoined (put k.transfers (transfer_by k ec d)) (λ (m : NewObject). transfer_of (object_of m)) (made_by d) ours.made)
+      (unjoined (put l.transfers (transfer_by l ec d)) (λ (m : NewObject). transfer_of (object_of m)) (made_by d) ours.made)
+      (transfers_alike k l S P b ec d) n (q, domain n its);
   identifiers = named_so P (put k.identifiers (identifier_by d)) (put l.identifiers (identifier_by d)) _ _
       (unjoined (put k.identifiers (identifier_by d)) identifier_of (made_by d) ours.made) (unjoined (put l.identifiers (identifier_by d)) identifier_of (made_by d) ours.made)
       (put_same P k.identifiers l.identifiers (identifier_by d) b.alike.identifiers);
@@ -263,6 +281,10 @@ turned_alike timed k l S P b cpu other ec sc p s d own stirs others = record {
       ap (λ (o : Option Branch). option_map held_by (find (covers kind pd place) (branched l.delegations o).list)) theirs.branch
       ∙ b.alike.spaces kind pd place its
       ∙ sym (ap (λ (o : Option Branch). option_map held_by (find (covers kind pd place) (branched k.delegations o).list)) ours.branch);
+  origins = λ kind pd place from its theirs_.
+      ap (λ (o : Option Branch). origin_of (branched l.delegations o).list from (find (covers kind pd place) (branched l.delegations o).list)) theirs.branch
+      ∙ b.alike.origins kind pd place from its theirs_
+      ∙ sym (ap (λ (o : Option Branch). origin_of (branched k.delegations o).list from (find (covers kind pd place) (branched k.delegations o).list)) ours.branch);
   frames = λ pd page to its leads. memory.frames to.frame (record { pd = pd; page = page; to = to; of = its; leads = was pd page to leads; its = refl });
   size = memory.size;
 }

@@ -1,35 +1,33 @@
 -- Along turns the condition stays true, so that each turn of others leaves the side alone.
-use Rattle.std.proofs.Common.{◌≡◌, ℕ, ◌⊎◌, suc, List, [], ◌∷◌, ◌++◌, length, refl, sym, ap, ◌∙◌, subst, inl, inr, arith}
+use Rattle.std.proofs.Common.{◌≡◌, ℕ, ◌⊎◌, ◌+◌, suc, List, [], ◌∷◌, ◌++◌, length, refl, sym, ap, ◌∙◌, subst, inl, inr, arith}
 use Rattle.std.specs.Prelude.{Bool, true, false, Contains, IsSome, slice_get, option_map, option_and_then, Option, Some, None}
 use Rattle.std.specs.List.{find}
 use Rattle.std.proofs.lemmas.Option.{same_Some, slice_get_within}
 use Rattle.nova_objects.specs.declared.object.EcKind.{EcKind}
 use Rattle.nova_objects.specs.declared.object.Object.{Object}
 use Rattle.nova_objects.specs.declared.object.Object.TheVariants.{Pd, Ec, Sc, Pt, Sm}
+use Rattle.nova_guest.specs.declared.page.Page.{Page}
 use Rattle.nova_range.specs.Rights.{write_right}
 use Rattle.nova_range.specs.declared.range.Kind.{Kind}
 use Rattle.nova_range.specs.declared.range.Kind.TheVariants.{Mem}
 use Rattle.nova_model.specs.Boot.{Scenario, boot}
 use Rattle.nova_model.specs.Choice.{Candidate, next_to_act}
-use Rattle.nova_model.specs.Creation.{object_of}
-use Rattle.nova_model.specs.Deeds.{deed}
-use Rattle.nova_model.specs.Delegations.{Delegations, covers, reach}
-use Rattle.nova_model.specs.Inputs.{is_stirred}
+use Rattle.nova_model.specs.Delegations.{Delegations, added, covers, parent_of, reach, with_id}
+use Rattle.nova_model.specs.Forest.{IsForest}
 use Rattle.nova_model.specs.Lines.{line}
 use Rattle.nova_model.specs.Runs.{after, run}
-use Rattle.nova_model.specs.State.{KernelState, deadline_of, entry, pd_of}
+use Rattle.nova_model.specs.State.{KernelState, deadline_of, pd_of}
 use Rattle.nova_model.specs.Times.{rung_once}
-use Rattle.nova_model.specs.declared.deed.Deed.{Deed}
-use Rattle.nova_model.specs.declared.deed.Deed.TheVariants as deeds
 use Rattle.nova_model.specs.declared.delegation.Derivation.{Derivation}
 use Rattle.nova_model.specs.declared.times.Alarm.{Alarm}
 use Rattle.nova_model.specs.declared.times.AlarmState.{AlarmState}
-use Rattle.nova_model.specs.declared.times.Deadline.{Deadline}
 use Rattle.nova_model.specs.declared.times.Due.{Due}
 use Rattle.law_forest.specs.Made.{IsFirstCapability}
-use Rattle.law_forest.specs.Effects.{Passing, Branch, branched, deadline_by, deadlines_with, made_by, no_deadline}
+use Rattle.law_forest.specs.Effects.{Passing}
 use Rattle.law_forest.specs.Turns.{Acts as Chosen, Idles, IsPassing, Passes, Takes, passing, turned}
+use Rattle.law_forest.specs.Within.{line_from}
 use Rattle.law_forest.proofs.Changes.{reached_change}
+use Rattle.law_forest.proofs.Lines.{line_is, member_found}
 use Rattle.law_forest.proofs.Members.{IsIn, contains_from_in, in_from_contains}
 use Rattle.law_forest.proofs.Turning.{comes}
 use Rattle.law_turns.proofs.Setting.{get_joined}
@@ -38,36 +36,52 @@ use Rattle.law_isolation.specs.Sound.{IsSound}
 use Rattle.law_isolation.proofs.Runs.{reached_sound, turn_sound}
 use Rattle.law_origins.specs.Giving.{Acts}
 use Rattle.law_origins.proofs.Actors.{object_stays}
-use Rattle.law_origins.proofs.Lists.{run_append}
-use Rattle.law_integrity.specs.Confined.{Holds, JoinsSet, IsMember, IsOwned, Of, more}
+use Rattle.law_integrity.specs.Confined.{Holds, JoinsSet, IsMember, IsOwned, Of, Reach, more}
 use Rattle.law_integrity.specs.Integrity.{ByActor as ActsRightly, AlarmByTime, Creates, Gives, GrowsByRight, Idles as IsIdleTurn, IsAuthorised, IsByTime, Keeps, Passes as PassesBy, Rings, Takes as TakesLeaf}
 use Rattle.law_integrity.proofs.Apart.{apart_along}
 use Rattle.law_integrity.proofs.Authorised.{authorised, authorised_by}
 use Rattle.law_integrity.proofs.Confined.{reach_along}
-use Rattle.law_integrity.proofs.Confining.{any_held, held_none, member_pd, newest_object, newest_owned, object_kept}
-use Rattle.law_integrity.proofs.Entries.{get_set}
+use Rattle.law_integrity.proofs.Confining.{acting_one, any_held, gives_in, held_none, member_pd, newest_object, newest_owned, object_kept}
 use Rattle.law_integrity.proofs.Homes.{reached_homed}
 use Rattle.law_integrity.proofs.Leaving.{flipped, leaves_other}
 use Rattle.law_integrity.proofs.Passing.{coming, due_in, turned_by_time}
 use Rattle.law_integrity.proofs.Resting.{IsMadeNow, acts_in, holds_made, second_after}
-use Rattle.law_flow.specs.Flow.{AreAlike, AreLeftAlone, AreAtWorkTimeless, held_at, held_by, IsLeftAlone, IsPartitioned, IsSide, IsTimeless, IsAtWork, if_own, own_turn}
-use Rattle.law_flow.proofs.Deciding.{IsOwn, deed_own}
-use Rattle.law_flow.proofs.Doing.{branch_none, by_deed, made_none}
-use Rattle.law_flow.proofs.Tables.{unjoined}
-use Rattle.law_flow.proofs.Keeping.{turned_side}
+use Rattle.law_flow.specs.Flow.{AreAlike, DerivesWithin, held_at, IsLeftAlone, IsPartitioned, IsSide, IsTimeless, if_own, own_turn}
+use Rattle.law_flow.proofs.Doing.{Seen}
+use Rattle.law_flow.proofs.Parts.{IsPart}
 use Rattle.law_flow.proofs.Leaving.{others_leave, some_there}
 use Rattle.law_flow.proofs.Others.{IsForeign, side_left, time_leaves, timeless_foreign}
 use Rattle.law_flow.proofs.Seeing.{page_by, page_held}
-use Rattle.law_flow.proofs.Turns.{IsOwnTurn, alike_itself, own_is, own_there, own_turned}
+use Rattle.law_flow.proofs.Turns.{alike_itself}
 use Rattle.law_flow.proofs.Sets.{apart_as, line_in, line_kept, parents_kept}
+use Rattle.law_flow.proofs.Taking.{derives_kept, last_one, last_there, still_there}
 
 -- THE CONDITION AFTER A TURN
+
+-- a part that the side gives to itself, of what it still holds
+pub record IsGivenTo (k new : KernelState) (S : ℕ → Type 0) (d : Derivation) : Type 0 where
+  pub part : IsPart k S d
+  pub stays : IsIn new.delegations.list part.source
 
 -- what a turn leaves of the side, whoever's it was
 pub record GoesOn (k new : KernelState) (S P : ℕ → Type 0) : Type 0 where
   pub side : IsSide new S P
-  pub gains : (d : Derivation) → Contains new.delegations.list d → S d.pd → Contains k.delegations.list d
-  pub spaces : (kind : Kind) (pd place : ℕ) → S pd → held_at new kind pd place ≡ held_at k kind pd place
+  pub gains : (d : Derivation) → Contains new.delegations.list d → S d.pd → Contains k.delegations.list d ⊎ IsGivenTo k new S d
+  pub pages : (pd page : ℕ) (to : Page) → S pd → reach new.delegations.list pd page ≡ Some to → Seen k S to.frame
+
+-- what its domains hold stays
+pub kept_on : (k new : KernelState) (S P : ℕ → Type 0) → IsSide new S P → ((d : Derivation) → Contains new.delegations.list d → S d.pd → Contains k.delegations.list d) →
+    ((kind : Kind) (pd place : ℕ) → S pd → held_at new kind pd place ≡ held_at k kind pd place) → GoesOn k new S P
+kept_on k new S P side gains spaces = record {
+  side = side;
+  gains = λ d there mine. inl (gains d there mine);
+  pages = λ pd page to mine leads. record { pd = pd; page = page; to = to; of = mine; leads = sym (pages pd page mine) ∙ leads; its = refl };
+}
+  where
+    pages : (pd page : ℕ) → S pd → reach new.delegations.list pd page ≡ reach k.delegations.list pd page
+    pages pd page mine =
+        page_held page (find (covers Mem pd page) new.delegations.list) ∙ ap (option_map (page_by page)) (spaces Mem pd page mine)
+        ∙ sym (page_held page (find (covers Mem pd page) k.delegations.list))
 
 -- an alarm that is there was there, for the same semaphore
 pub alarm_was : (s : Scenario) (before : List ℕ) (cpu n : ℕ) (a : AlarmState) → slice_get (after (run (boot s) before) cpu).times.alarms n ≡ Some a →
@@ -104,8 +118,9 @@ next_partitioned s before S P T cpu c on none_made = record {
     semaphores = λ n p is h. held n p is (holds_made k T cpu 0 n (second_after s before (Of S) T cpu c.apart.separate) (reached_homed s before) (held_none h));
     lines = λ d a there mine above t. lines d a there mine above t;
     memory = λ pd page to mine leads r.
-        c.guarded.memory pd page to mine (sym (pages_same pd page mine) ∙ leads)
-        (reach_along s before (cpu ∷ []) T (Of S) write_right to.frame (flipped k (Of S) T c.apart.separate) r);
+        let seen = on.pages pd page to mine leads in
+        c.guarded.memory seen.pd seen.page seen.to seen.of seen.leads
+        (subst (Reach k T write_right) (sym seen.its) (reach_along s before (cpu ∷ []) T (Of S) write_right to.frame (flipped k (Of S) T c.apart.separate) r));
   };
 }
   where
@@ -136,24 +151,17 @@ next_partitioned s before S P T cpu c on none_made = record {
     owned_kept n (Some Sm) m = tt
     owned_kept n None m = tt
 
-    pages_same : (pd page : ℕ) → S pd ≡ true → reach (after (run (boot s) before) cpu).delegations.list pd page ≡ reach (run (boot s) before).delegations.list pd page
-    pages_same pd page mine =
-        page_held page (find (covers Mem pd page) new.delegations.list) ∙ ap (option_map (page_by page)) (on.spaces Mem pd page mine)
-        ∙ sym (page_held page (find (covers Mem pd page) k.delegations.list))
-
     held : (n : ℕ) → P n ≡ true → slice_get (after (run (boot s) before) cpu).objects n ≡ Some Sm → Holds (run (boot s) before) T 0 n ⊎ IsMadeNow (run (boot s) before) T cpu n → ⊥
     held n p is (inl h) = c.guarded.semaphores n p (sym (stays n p) ∙ is) (any_held h)
     held n p is (inr made) =
         let o = some_there (slice_get k.objects n) (c.guarded.there n p) in
         let below = slice_get_within k.objects n o.0 o.1 in let number = made.number in omega (arith, below, number)
 
-    lines : (d a : Derivation) → Contains (after (run (boot s) before) cpu).delegations.list d → S d.pd ≡ true → Contains (line (after (run (boot s) before) cpu).delegations.list d) a →
+    -- of what was there
+    old_lines : (d a : Derivation) → IsIn (run (boot s) before).delegations.list d → S d.pd ≡ true → Contains (line (after (run (boot s) before) cpu).delegations.list d) a →
         more (run (boot s) before) T cpu a.pd → ⊥
-    lines d a there mine above t = by_set t
+    old_lines d a was mine above t = by_set t
       where
-        was : IsIn (run (boot s) before).delegations.list d
-        was = in_from_contains k.delegations.list d (on.gains d there mine)
-
         same : line (after (run (boot s) before) cpu).delegations.list d ≡ line (run (boot s) before).delegations.list d
         same = line_kept k.delegations.list new.delegations.list (parents_kept k.delegations new.delegations sound.forest (reached_change s before cpu)) (suc d.id) d was
 
@@ -164,8 +172,34 @@ next_partitioned s before S P T cpu c on none_made = record {
         its = (reached_homed s before).holders a (contains_from_in k.delegations.list a (line_in k.delegations.list (suc d.id) d a was (in_from_contains (line k.delegations.list d) a before_it)))
 
         by_set : more (run (boot s) before) T cpu a.pd → ⊥
-        by_set (inl u) = c.guarded.lines d a (on.gains d there mine) mine before_it u
+        by_set (inl u) = c.guarded.lines d a (contains_from_in k.delegations.list d was) mine before_it u
         by_set (inr made) = let below = slice_get_within k.objects a.pd Pd its in let number = made.number in omega (arith, below, number)
+
+    lines : (d a : Derivation) → Contains (after (run (boot s) before) cpu).delegations.list d → S d.pd ≡ true → Contains (line (after (run (boot s) before) cpu).delegations.list d) a →
+        more (run (boot s) before) T cpu a.pd → ⊥
+    lines d a there mine above t = elim (on.gains d there mine) [
+      | inl old ↦ old_lines d a (in_from_contains k.delegations.list d old) mine above t
+      | inr given ↦ by_line given (subst (λ (l : List Derivation). IsIn l a) (whole given) (in_from_contains (line new.delegations.list d) a above))
+    ]
+      where
+        forest : IsForest (after (run (boot s) before) cpu).delegations
+        forest = (turn_sound k cpu sound).forest
+
+        whole : (g : IsGivenTo (run (boot s) before) (after (run (boot s) before) cpu) (Of S) d) →
+            line (after (run (boot s) before) cpu).delegations.list d ≡ d ∷ line (after (run (boot s) before) cpu).delegations.list g.part.source
+        whole g =
+            line_is new.delegations d forest (in_from_contains new.delegations.list d there)
+            ∙ ap (λ (o : Option Derivation). d ∷ line_from new.delegations.list o)
+            (ap (option_and_then (with_id new.delegations.list)) g.part.parent ∙ member_found new.delegations.list g.part.source forest.rising g.stays)
+
+        own : a.pd ≡ d.pd → more (run (boot s) before) T cpu a.pd → ⊥
+        own same (inl u) = c.apart.separate.disjoint a.pd (ap S same ∙ mine) u
+        own same (inr made) =
+            let below = slice_get_within k.objects a.pd Pd (c.apart.separate.first.there a.pd (ap S same ∙ mine)) in let number = made.number in omega (arith, below, number)
+
+        by_line : (g : IsGivenTo (run (boot s) before) (after (run (boot s) before) cpu) (Of S) d) → IsIn (d ∷ line (after (run (boot s) before) cpu).delegations.list g.part.source) a → ⊥
+        by_line g (inl same) = own (ap (λ (x : Derivation). x.pd) (sym same)) t
+        by_line g (inr further) = old_lines g.part.source a g.part.there g.part.of (contains_from_in (line new.delegations.list g.part.source) a further) t
 
 -- A TURN OF OTHERS
 
@@ -251,14 +285,14 @@ others_turn s before S P T cpu c none foreign = elim (comes (run (boot s) before
     still : OthersTurn (run (boot s) before) (run (boot s) before) (Of S) (Of P)
     still = record {
       same = alike_itself k S P;
-      on = record { side = c.side; gains = λ d there mine. there; spaces = λ kind pd place mine. refl };
+      on = kept_on k k (Of S) (Of P) c.side (λ d there mine. there) (λ kind pd place mine. refl);
     }
 
     from_alike : (new : KernelState) → AreAlike (run (boot s) before) new (Of S) (Of P) → ((d : Derivation) → Contains new.delegations.list d → S d.pd ≡ true → Contains (run (boot s) before).delegations.list d) →
         ((n pd its : ℕ) (kind : EcKind) (event : ℕ) → slice_get new.objects n ≡ Some (Ec pd its kind event) → S pd ≡ true → P n ≡ true) → OthersTurn (run (boot s) before) new (Of S) (Of P)
     from_alike new a gains members = record {
       same = a;
-      on = record { side = side_left k new (Of S) (Of P) a c.side gains members; gains = gains; spaces = a.spaces };
+      on = kept_on k new (Of S) (Of P) (side_left k new (Of S) (Of P) a c.side gains members) gains a.spaces;
     }
 
     by_member : (ec : ℕ) → Acts (run (boot s) before) cpu ec → IsMember (run (boot s) before) (Of S) ec ⊎ IsMember (run (boot s) before) T ec →
@@ -283,106 +317,76 @@ pub others_leave_alone : (s : Scenario) (before : List ℕ) (S P : ℕ → Bool)
     IsLeftAlone (run (boot s) before) (Of S) (Of P) cpu
 others_leave_alone s before S P T cpu c timeless none = let t = others_turn s before S P T cpu c none (foreign_so (run (boot s) before) (Of P) cpu timeless) in record { same = t.same; side = t.on.side }
 
--- ONE OF THE SIDE'S OWN
-
-undated : (ds : List (Option Deadline)) (o : Option (ℕ × Option Deadline)) (n : ℕ) → ((m : ℕ) (d : Option Deadline) → o ≡ Some (m, d) → d ≡ None) → entry (slice_get ds n) ≡ None →
-    entry (slice_get (deadlines_with ds o) n) ≡ None
-undated ds None n none old = old
-undated ds (Some (m, d)) n none old =
-    get_set (λ (o : Option (Option Deadline)). entry o ≡ None) ds m n d old (λ same. none m d refl)
-
-pair_second : (m n : ℕ) (d e : Option Deadline) → ◌≡◌ {A = Option (ℕ × Option Deadline)} (Some (m, d)) (Some (n, e)) → d ≡ e
-pair_second m n d e is = ap (λ (a : ℕ × Option Deadline). a.1) (same_Some {A = ℕ × Option Deadline} (m, d) (n, e) is)
-
-no_date : (P : ℕ → Type 0) (ec : ℕ) (d : Deed) → IsOwn ⊥ P d → (m : ℕ) (e : Option Deadline) → deadline_by ec d ≡ Some (m, e) → e ≡ None
-no_date P ec (deeds.Ups sm None) own m e is = absurd (cc)
-no_date P ec (deeds.Ups sm (Some w)) own m e is = sym (pair_second w m None e is)
-no_date P ec (deeds.Blocks sm None) own m e is = absurd (cc)
-no_date P ec (deeds.Blocks sm (Some until)) own m e is = absurd own.1
-no_date P ec other own m e is = absurd (cc)
-
-pub own_goes_on : (timed : Type 0) (s : Scenario) (before : List ℕ) (S P : ℕ → Bool) (T : ℕ → Type 0) (cpu ec sc : ℕ) → IsPartitioned (run (boot s) before) (Of S) T (Of P) →
-    own_turn S (run (boot s) before) cpu ≡ Some (ec, sc) → IsAtWork timed (run (boot s) before) ec →
-    IsPartitioned (after (run (boot s) before) cpu) (Of S) (more (run (boot s) before) T cpu) (Of P)
-own_goes_on timed s before S P T cpu ec sc c own works = next_partitioned s before S P T cpu c on none_made
+-- and makes nothing of what the side holds
+pub others_derive : (s : Scenario) (before : List ℕ) (S P : ℕ → Bool) (T : ℕ → Type 0) (cpu : ℕ) → IsPartitioned (run (boot s) before) (Of S) T (Of P) → own_turn S (run (boot s) before) cpu ≡ None → DerivesWithin (run (boot s) before) (Of S) →
+    DerivesWithin (after (run (boot s) before) cpu) (Of S)
+others_derive s before S P T cpu c none within = derives_kept k new (Of S) sound.forest (reached_change s before cpu) within joins
   where
     k : KernelState
     k = run (boot s) before
+
+    new : KernelState
+    new = after (run (boot s) before) cpu
 
     sound : IsSound (run (boot s) before)
     sound = reached_sound s before
 
-    its : IsOwnTurn S (run (boot s) before) cpu ec sc
-    its = own_is S k cpu ec sc own
+    forest : IsForest (after (run (boot s) before) cpu).delegations
+    forest = (turn_sound k cpu sound).forest
 
-    p : P ec ≡ true
-    p = own_there S k (Of P) cpu ec sc sound c.side its
+    -- one more is not the same, nor one less
+    grown : (x : Derivation) → (after (run (boot s) before) cpu).delegations ≡ added (run (boot s) before).delegations x → (after (run (boot s) before) cpu).delegations.next ≡ (run (boot s) before).delegations.next → ⊥
+    grown x is same = let next : k.delegations.next + 1 ≡ k.delegations.next = sym (ap (λ (f : Delegations). f.next) is) ∙ same in omega (arith, next)
 
-    d : Deed
-    d = deed (run (boot s) before) ec
+    -- where it is the only one of its line, or made of what is another's
+    joins : (x a : Derivation) → (after (run (boot s) before) cpu).delegations ≡ added (run (boot s) before).delegations x → Contains (line (after (run (boot s) before) cpu).delegations.list x) a → S a.pd ≡ true → S x.pd ≡ true
+    joins x a is above s_pd = elim (comes k cpu) [
+      | Idles nobody quiet same answer ↦ absurd (grown x is (ap (λ (l : KernelState). l.delegations.next) same))
+      | Takes t e turning state answer ↦ elim turning [
+        | Chosen d chosen its event ↦ by_acts d.actor (ap (option_map (λ (d : Candidate). d.actor)) chosen)
+        | Passes p due its event ↦ absurd (grown x is (ap (λ (l : KernelState). l.delegations.next) (state ∙ ap (turned k cpu) its)))
+      ]
+    ]
+      where
+        there : IsIn (after (run (boot s) before) cpu).delegations.list x
+        there = subst (λ (f : Delegations). IsIn f.list x) (sym is) (last_there k.delegations.list x)
 
-    mine : IsOwn timed (Of P) (deed (run (boot s) before) ec)
-    mine = deed_own timed k k (Of S) (Of P) (record { side = c.side; alike = alike_itself k S P; first = sound.kept.edges; second = sound.kept.edges }) ec p its.of works
+        by_line : (o : Option Derivation) → parent_of (after (run (boot s) before) cpu).delegations.list x ≡ o → ((q : Derivation) → o ≡ Some q → IsIn (run (boot s) before).delegations.list q × (S q.pd ≡ true → ⊥)) → S x.pd ≡ true
+        by_line o up of =
+            by_member o up of (subst (λ (l : List Derivation). IsIn l a) (line_is new.delegations x forest there ∙ ap (λ (u : Option Derivation). x ∷ line_from new.delegations.list u) up) (in_from_contains (line new.delegations.list x) a above))
+          where
+            by_member : (o : Option Derivation) → parent_of (after (run (boot s) before) cpu).delegations.list x ≡ o → ((q : Derivation) → o ≡ Some q → IsIn (run (boot s) before).delegations.list q × (S q.pd ≡ true → ⊥)) →
+                IsIn (x ∷ line_from (after (run (boot s) before) cpu).delegations.list o) a → S x.pd ≡ true
+            by_member o up of (inl same) = ap (λ (y : Derivation). S y.pd) same ∙ s_pd
+            by_member None up of (inr further) = absurd further
+            by_member (Some q) up of (inr further) =
+                let its = of q refl in
+                let kept : line new.delegations.list q ≡ line k.delegations.list q =
+                line_kept k.delegations.list new.delegations.list (parents_kept k.delegations new.delegations sound.forest (reached_change s before cpu)) (suc q.id) q its.0 in
+                absurd (its.1 (within q a (contains_from_in k.delegations.list q its.0) (subst (λ (l : List Derivation). Contains l a) kept (contains_from_in (line new.delegations.list q) a further)) s_pd))
 
-    is : after (run (boot s) before) cpu ≡ turned (run (boot s) before) cpu (by_deed (run (boot s) before) ec sc (deed (run (boot s) before) ec) (is_stirred (run (boot s) before) ec (deed (run (boot s) before) ec)))
-    is = own_turned S k cpu ec sc its
+        by_grows : (ec : ℕ) → Acts (run (boot s) before) cpu ec → IsMember (run (boot s) before) T ec → GrowsByRight (run (boot s) before) (after (run (boot s) before) cpu) ec → S x.pd ≡ true
+        by_grows ec acts_ m (Keeps objects same) = absurd (grown x is (ap (λ (f : Delegations). f.next) same))
+        by_grows ec acts_ m (TakesLeaf leaf may objects same) = absurd (grown x is (ap (λ (f : Delegations). f.next) same))
+        by_grows ec acts_ m (Creates object capability first objects same) =
+            let one : capability ≡ x = last_one k.delegations.list capability x (ap (λ (f : Delegations). f.list) (sym same ∙ is)) in
+            by_line None (ap (option_and_then (with_id new.delegations.list)) (sym (ap (λ (d : Derivation). d.parent) one) ∙ first.parent)) (λ q h. absurd (cc))
+        by_grows ec acts_ m (Gives child source has named within_ shared given gives objects same) =
+            let one : child ≡ x = last_one k.delegations.list child x (ap (λ (f : Delegations). f.list) (sym same ∙ is)) in
+            let old : IsIn k.delegations.list source = in_from_contains k.delegations.list source has in
+            let up : parent_of new.delegations.list x ≡ Some source =
+            ap (option_and_then (with_id new.delegations.list)) (sym (ap (λ (d : Derivation). d.parent) one) ∙ named)
+            ∙ member_found new.delegations.list source forest.rising (subst (λ (f : Delegations). IsIn f.list source) (sym is) (still_there k.delegations.list x source old)) in
+            by_line (Some source) up (λ q h.
+            let same_q : source ≡ q = same_Some source q h in (
+              subst (IsIn k.delegations.list) same_q old,
+              λ mine. c.apart.separate.disjoint q.pd mine
+                  (subst (λ (d : Derivation). T d.pd) same_q (gives_in k T ec source.pd child.pd sound c.apart.separate.second (acting_one k cpu ec acts_) m gives).0),
+            ))
 
-    delegations : (after (run (boot s) before) cpu).delegations ≡ (run (boot s) before).delegations
-    delegations = ap (λ (l : KernelState). l.delegations) is ∙ ap (λ (o : Option Branch). branched k.delegations o) (branch_none timed k (Of P) ec d mine)
+        by_member_of : (ec : ℕ) → Acts (run (boot s) before) cpu ec → IsMember (run (boot s) before) (Of S) ec ⊎ IsMember (run (boot s) before) T ec → S x.pd ≡ true
+        by_member_of ec acts_ (inl m) = absurd (own_from S k cpu ec acts_ (member_pd k (Of S) ec m) none)
+        by_member_of ec acts_ (inr m) = by_grows ec acts_ m (authorised_by s before cpu ec acts_).2.grows
 
-    objects : (after (run (boot s) before) cpu).objects ≡ (run (boot s) before).objects
-    objects = ap (λ (l : KernelState). l.objects) is ∙ unjoined k.objects object_of (made_by d) (made_none timed (Of P) d mine)
-
-    on : GoesOn (run (boot s) before) (after (run (boot s) before) cpu) (Of S) (Of P)
-    on = record {
-      side = subst (λ (l : KernelState). IsSide l (Of S) (Of P)) (sym is) (turned_side timed k (Of S) (Of P) c.side cpu ec sc p d mine (is_stirred k ec d));
-      gains = λ e there s_pd. subst (λ (f : Delegations). Contains f.list e) delegations there;
-      spaces = λ kind pd place s_pd. ap (λ (f : Delegations). option_map held_by (find (covers kind pd place) f.list)) delegations;
-    }
-
-    none_made : (n : ℕ) → JoinsSet (run (boot s) before) (Of S) cpu n → ⊥
-    none_made n made =
-        let at : slice_get k.objects n ≡ Some Pd = sym (ap (λ (os : List Object). slice_get os n) objects) ∙ made.made in
-        let below = slice_get_within k.objects n Pd at in let number = made.number in omega (arith, below, number)
-
--- without a deadline it comes to none
-pub own_timeless : (s : Scenario) (before : List ℕ) (S P : ℕ → Bool) (T : ℕ → Type 0) (cpu ec sc : ℕ) → IsPartitioned (run (boot s) before) (Of S) T (Of P) → IsTimeless (run (boot s) before) (Of P) →
-    own_turn S (run (boot s) before) cpu ≡ Some (ec, sc) → IsAtWork ⊥ (run (boot s) before) ec → (n : ℕ) → P n ≡ true → deadline_of (after (run (boot s) before) cpu).times n ≡ None
-own_timeless s before S P T cpu ec sc c timeless own works n q =
-    let k = run (boot s) before in
-    let sound = reached_sound s before in
-    let its = own_is S k cpu ec sc own in
-    let d = deed k ec in
-    let mine = deed_own ⊥ k k (Of S) (Of P) (record { side = c.side; alike = alike_itself k S P; first = sound.kept.edges; second = sound.kept.edges }) ec (own_there S k (Of P) cpu ec sc sound c.side its) its.of works in
-    ap (λ (l : KernelState). deadline_of l.times n) (own_turned S k cpu ec sc its)
-    ∙ ap (λ (ds : List (Option Deadline)). entry (slice_get ds n)) (unjoined (deadlines_with k.times.deadlines (deadline_by ec d)) no_deadline (made_by d) (made_none ⊥ (Of P) d mine))
-    ∙ undated k.times.deadlines (deadline_by ec d) n (no_date (Of P) ec d mine) (timeless.deadlines n q)
-
--- ALONG TURNS
-
-pub left_along : (s : Scenario) (before turns : List ℕ) (S P : ℕ → Bool) (T : ℕ → Type 0) → IsPartitioned (run (boot s) before) (Of S) T (Of P) → IsTimeless (run (boot s) before) (Of P) →
-    AreAtWorkTimeless S (run (boot s) before) turns → AreLeftAlone S P (run (boot s) before) turns
-left_along s before [] S P T c timeless works = tt
-left_along s before (cpu ∷ turns) S P T c timeless works = (
-  others_leave_alone s before S P T cpu c timeless,
-  by_own (own_turn S k cpu) refl (λ later untimed. subst (λ (l : KernelState). AreAtWorkTimeless S l turns → AreLeftAlone S P l turns) next
-      (left_along s (before ++ cpu ∷ []) turns S P (more k T cpu) (subst (λ (l : KernelState). IsPartitioned l (Of S) (more k T cpu) (Of P)) (sym next) later)
-      (subst (λ (l : KernelState). IsTimeless l (Of P)) (sym next) untimed)) works.1),
-)
-  where
-    k : KernelState
-    k = run (boot s) before
-
-    next : run (boot s) (before ++ cpu ∷ []) ≡ after (run (boot s) before) cpu
-    next = run_append (boot s) before (cpu ∷ [])
-
-    by_own : (o : Option (ℕ × ℕ)) → own_turn S (run (boot s) before) cpu ≡ o →
-        (IsPartitioned (after (run (boot s) before) cpu) (Of S) (more (run (boot s) before) T cpu) (Of P) → IsTimeless (after (run (boot s) before) cpu) (Of P) → AreLeftAlone S P (after (run (boot s) before) cpu) turns) →
-        AreLeftAlone S P (after (run (boot s) before) cpu) turns
-    by_own None is later =
-        let t = others_turn s before S P T cpu c is (foreign_so k (Of P) cpu timeless) in
-        later (next_partitioned s before S P T cpu c t.on (none_made_by S k cpu is))
-        (timeless_next s before (Of P) cpu timeless (λ n p. ap (λ (o : Option (Option Deadline)). entry o) (t.same.deadlines n p) ∙ timeless.deadlines n p))
-    by_own (Some pair) is later =
-        later (own_goes_on ⊥ s before S P T cpu pair.0 pair.1 c is (works.0 pair.0 pair.1 is))
-        (timeless_next s before (Of P) cpu timeless (own_timeless s before S P T cpu pair.0 pair.1 c timeless is (works.0 pair.0 pair.1 is)))
+        by_acts : (ec : ℕ) → Acts (run (boot s) before) cpu ec → S x.pd ≡ true
+        by_acts ec acts_ = by_member_of ec acts_ (acts_in k (Of S) T cpu ec c.apart.separate acts_)

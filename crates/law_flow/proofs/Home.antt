@@ -2,7 +2,6 @@
 use Rattle.std.proofs.Common.{◌≡◌, ℕ, zero, suc, List, [], ◌∷◌, refl, sym, ap, ◌∙◌, subst, inl, inr}
 use Rattle.std.specs.Prelude.{Bool, true, IfSome, IsSome, is_some, slice_get, slice_set, option_map, option_and_then, Option, Some, None}
 use Rattle.std.proofs.lemmas.Option.{same_Some}
-use Rattle.nova_calls.specs.Hypercalls.{call_of}
 use Rattle.nova_objects.specs.declared.object.EcKind.{EcKind}
 use Rattle.nova_objects.specs.declared.object.Object.{Object}
 use Rattle.nova_objects.specs.declared.object.Object.TheVariants.{Pd, Ec, Sc, Pt, Sm}
@@ -13,13 +12,13 @@ use Rattle.nova_model.specs.Boot.{Scenario, boot}
 use Rattle.nova_model.specs.Capabilities.{is_ec}
 use Rattle.nova_model.specs.Choice.{Candidate, choice, next_to_act, unless_due}
 use Rattle.nova_model.specs.Deeds.{deed}
-use Rattle.nova_model.specs.Edges.{AreEdges, after_edges, cpu_in, edge}
+use Rattle.nova_model.specs.Edges.{AreEdges, after_edges, cpu_in, edge, is_giving}
 use Rattle.nova_model.specs.Inputs.{is_stirred}
 use Rattle.nova_model.specs.Runs.{after, run}
 use Rattle.nova_model.specs.Semaphores.{raised, semaphore, without_one, woken}
-use Rattle.nova_model.specs.State.{Contexts, KernelState, Semaphore, context_at, deadline_of, entry, pd_in, pd_of, processor_in, processor_of}
+use Rattle.nova_model.specs.State.{Contexts, KernelState, Semaphore, context, context_at, deadline_of, entry, pd_in, pd_of, processor_in, processor_of}
 use Rattle.nova_model.specs.Times.{alarm_sm, deadline_sm, due_on, next_entry, next_moment, rung_in, rung_once}
-use Rattle.nova_model.specs.Turn.{answer_of, event_by, event_without, number_in, status_of, turn, whom_of}
+use Rattle.nova_model.specs.Turn.{answer_of, event_without, number_in, status_of, turn, whom_of}
 use Rattle.nova_model.specs.declared.context.EcState.{EcState}
 use Rattle.nova_model.specs.declared.deed.Deed.{Deed}
 use Rattle.nova_model.specs.declared.event.Event.{Event}
@@ -45,20 +44,23 @@ use Rattle.law_turns.specs.Tables.{Suits}
 use Rattle.law_isolation.specs.Sound.{IsSound}
 use Rattle.law_isolation.proofs.Runs.{reached_sound}
 use Rattle.law_integrity.specs.Confined.{IsOwned, Of}
-use Rattle.law_integrity.specs.Rights.{Again, AtCall, HasTurn, IsAsking}
+use Rattle.law_integrity.specs.Rights.{HasTurn}
 use Rattle.law_integrity.proofs.Authorised.{has_turn}
 use Rattle.law_integrity.proofs.Beside.{idle_stays}
-use Rattle.law_flow.specs.Flow.{AreAlike, HasSameClock, fronts, gain_for, is_at_work, IsPartitioned, IsAtWork, IsCallAtWork, if_own, own_deed, own_turn}
-use Rattle.law_flow.specs.Processors.{AreTimed, IsAtHome}
-use Rattle.law_flow.proofs.Seeing.{Both, context_same, instruction_same, semaphore_same, thread_same}
-use Rattle.law_flow.proofs.Deciding.{deed_own}
+use Rattle.law_flow.specs.Flow.{AreAlike, HasSameClock, fronts, gain_for, IsPartitioned, IsAtWork, if_own, own_deed, own_turn, RevokesNothing, AreGivingWithin, AreRevokingWithin, IsGivingWithin, unnumbered}
+use Rattle.law_flow.specs.Processors.{AreTimed, IsAtHome, unnumbered_event}
+use Rattle.law_flow.proofs.Seeing.{Both, context_same, semaphore_same}
+use Rattle.law_flow.proofs.Pairs.{first_made, first_own, same_event, second_made}
+use Rattle.law_flow.proofs.Within.{revokes_second, within_partition, works_too}
 use Rattle.law_flow.proofs.Doing.{Shown, by_deed, shown_contexts}
 use Rattle.law_flow.proofs.Tables.{change_same, deadlines_same, edits_alike, fronts_alike}
 use Rattle.law_flow.proofs.Timing.{clock_same, deadline_mine, due_same, entries_same}
 use Rattle.law_flow.proofs.Choosing.{ChosenSame, Rank, chosen_same, stamped}
 use Rattle.law_flow.proofs.Paying.{clocks_ticked, own_timed}
 use Rattle.law_flow.proofs.Telling.{chosen_told, event_told, none_told}
-use Rattle.law_flow.proofs.Turns.{AreTwins, decided, own_alike, own_gains, own_is, own_turned, work_as}
+use Rattle.law_flow.proofs.Turns.{AreTwins, decided, own_alike, own_derived, own_gains, own_is, own_of, own_turned, work_as}
+use Rattle.law_flow.proofs.Own.{own_derives_on}
+use Rattle.law_flow.proofs.Taking.{revoking_kept}
 
 -- WHAT COMES BY ITSELF ON A PROCESSOR OF THE SIDE'S
 
@@ -87,6 +89,7 @@ passed_alike k l S P b cpu p same = record {
       ap (λ (e : Option (ℕ × Status)). slice_get (deadlines_with l.times.deadlines (clears_by e)) n) same.ends
       ∙ deadlines_same P k.times.deadlines l.times.deadlines (clears_by (passing_ends k p)) b.alike.deadlines n q;
   spaces = b.alike.spaces;
+  origins = b.alike.origins;
   frames = b.alike.frames;
   size = b.alike.size;
 }
@@ -159,32 +162,19 @@ passed_timed k l P C cpu Ticks t c is = record { clocks = clocks_ticked k l P C 
 
 -- THE TURN OF A PROCESSOR OF THE SIDE'S
 
+-- the same times, and what is asked of both where the side revokes
+pub record AreTogether (revokes : Bool) (k l : KernelState) (S P C : ℕ → Bool) : Type 0 where
+  pub timed : AreTimed k l (Of P) (Of C)
+  pub within : revokes ≡ true → AreRevokingWithin k l (Of S)
+
 -- both states after it
-pub record HomeTurn (k l : KernelState) (S P C : ℕ → Bool) (cpu : ℕ) : Type 0 where
+pub record HomeTurn (revokes : Bool) (k l : KernelState) (S P C : ℕ → Bool) (cpu : ℕ) : Type 0 where
   pub alike : AreAlike (after k cpu) (after l cpu) (Of S) (Of P)
-  pub timed : AreTimed (after k cpu) (after l cpu) (Of P) (Of C)
+  pub timed : AreTogether revokes (after k cpu) (after l cpu) S P C
   pub deeds : own_deed S l cpu ≡ own_deed S k cpu
   pub bytes : gain_for l cpu (own_turn S l cpu) ≡ gain_for k cpu (own_turn S k cpu)
-  pub event : event_at l cpu ≡ event_at k cpu
-  pub works : (ec sc : ℕ) → own_turn S l cpu ≡ Some (ec, sc) → IsAtWork (Unit {0}) l ec
-
--- the same turn is one at work in the second too
-pub works_too : (timed : Type 0) (k l : KernelState) (S P : ℕ → Type 0) → Both k l S P → (ec : ℕ) → P ec → S (pd_of k ec) → IsAtWork timed k ec → IsAtWork timed l ec
-works_too timed k l S P b ec p s works = record {
-  state = ap (λ (x : EcState). is_at_work x.state) (context_same k l S P b ec p s) ∙ works.state;
-  calls = λ asks_. subst (λ (x : EcState). IsCallAtWork timed (call_of x.regs)) (sym (context_same k l S P b ec p s)) (works.calls (by_asks asks_));
-}
-  where
-    by_asks : IsAsking l ec → IsAsking k ec
-    by_asks (Again handler is) = Again handler (sym (ap (λ (x : EcState). x.state) (context_same k l S P b ec p s)) ∙ is)
-    by_asks (AtCall c) = AtCall (record {
-      state = sym (ap (λ (x : EcState). x.state) (context_same k l S P b ec p s)) ∙ c.state;
-      recall = sym (ap (λ (x : EcState). x.recall) (context_same k l S P b ec p s)) ∙ c.recall;
-      thread = sym (thread_same k l S P b ec p) ∙ c.thread;
-      q0 = c.q0;
-      q1 = c.q1;
-      raises = sym (instruction_same k l S P b ec p s) ∙ c.raises;
-    })
+  pub event : option_map unnumbered_event (event_at l cpu) ≡ option_map unnumbered_event (event_at k cpu)
+  pub works : (ec sc : ℕ) → own_turn S l cpu ≡ Some (ec, sc) → IsAtWork (Unit {0}) (RevokesNothing l (Of S)) (revokes ≡ true) l ec
 
 -- a turn in which nobody acts
 pub nobody_own : (S : ℕ → Bool) (k : KernelState) (cpu : ℕ) → next_to_act k cpu ≡ None → own_turn S k cpu ≡ None
@@ -195,11 +185,7 @@ unfolding next_to_act
 due_nobody k cpu what is = ap (λ (o : Option Due). unless_due o (choice k cpu)) is
 
 pub own_none_deed : (S : ℕ → Bool) (k : KernelState) (cpu : ℕ) → own_turn S k cpu ≡ None → own_deed S k cpu ≡ None
-own_none_deed S k cpu none = ap (λ (o : Option (ℕ × ℕ)). option_map (λ (p : ℕ × ℕ). (p.0, deed k p.0)) o) none
-
--- a down with a deadline is for the clock of its processor
-working_at : (timed : Type 0) (k : KernelState) (ec : ℕ) → IsAtWork (Unit {0}) k ec → timed → IsAtWork timed k ec
-working_at timed k ec works its = work_as (Unit {0}) timed k ec (λ none. its) works
+own_none_deed S k cpu none = ap (λ (o : Option (ℕ × ℕ)). option_map (λ (p : ℕ × ℕ). (p.0, unnumbered (deed k p.0))) o) none
 
 -- who acts is an execution context of the processor
 way_cpu : (cs : Contexts) → AreEdges cs → (m n f : ℕ) → after_edges m (edge cs) n ≡ Some f → cpu_in cs f ≡ cpu_in cs n
@@ -267,14 +253,17 @@ own_chosen s before S P T cpu c part p is =
 same_pair : (m n i j : ℕ) → ◌≡◌ {A = Option (ℕ × ℕ)} (Some (m, n)) (Some (i, j)) → m ≡ i
 same_pair m n i j is = ap (λ (p : ℕ × ℕ). p.0) (same_Some {A = ℕ × ℕ} (m, n) (i, j) is)
 
-pub home_turn : (a b : Scenario) (x y : List ℕ) (S P C : ℕ → Bool) (T U : ℕ → Type 0) (cpu : ℕ) →
+pub home_turn : (revokes : Bool) (a b : Scenario) (x y : List ℕ) (S P C : ℕ → Bool) (T U : ℕ → Type 0) (cpu : ℕ) →
     IsPartitioned (run (boot a) x) (Of S) T (Of P) → IsPartitioned (run (boot b) y) (Of S) U (Of P) → AreAlike (run (boot a) x) (run (boot b) y) (Of S) (Of P) →
-    AreTimed (run (boot a) x) (run (boot b) y) (Of P) (Of C) → IsAtHome (run (boot a) x) (Of S) (Of P) (Of C) → IsAtHome (run (boot b) y) (Of S) (Of P) (Of C) →
-    ((ec sc : ℕ) → own_turn S (run (boot a) x) cpu ≡ Some (ec, sc) → IsAtWork (Unit {0}) (run (boot a) x) ec) → C cpu ≡ true → HomeTurn (run (boot a) x) (run (boot b) y) S P C cpu
-home_turn a b x y S P C T U cpu first second alike timed home abroad works c = by_due (due_on k.times cpu) refl
+    AreTogether revokes (run (boot a) x) (run (boot b) y) S P C → IsAtHome (run (boot a) x) (Of S) (Of P) (Of C) → IsAtHome (run (boot b) y) (Of S) (Of P) (Of C) →
+    ((ec sc : ℕ) → own_turn S (run (boot a) x) cpu ≡ Some (ec, sc) → IsAtWork (Unit {0}) (RevokesNothing (run (boot a) x) (Of S)) (revokes ≡ true) (run (boot a) x) ec) → C cpu ≡ true → HomeTurn revokes (run (boot a) x) (run (boot b) y) S P C cpu
+home_turn revokes a b x y S P C T U cpu first second alike together home abroad works c = by_due (due_on k.times cpu) refl
   where
     k : KernelState
     k = run (boot a) x
+
+    timed : AreTimed (run (boot a) x) (run (boot b) y) (Of P) (Of C)
+    timed = together.timed
 
     l : KernelState
     l = run (boot b) y
@@ -304,12 +293,15 @@ home_turn a b x y S P C T U cpu first second alike timed home abroad works c = b
     chosen = chosen_same k l (Of S) (Of P) (Of C) cpu sound also two second.side home abroad timed c
 
     -- by states that both come to
-    so : (m n : KernelState) → after (run (boot a) x) cpu ≡ m → after (run (boot b) y) cpu ≡ n → AreAlike m n (Of S) (Of P) → AreTimed m n (Of P) (Of C) →
-        own_turn S (run (boot a) x) cpu ≡ None → own_turn S (run (boot b) y) cpu ≡ None → event_at (run (boot b) y) cpu ≡ event_at (run (boot a) x) cpu →
-        HomeTurn (run (boot a) x) (run (boot b) y) S P C cpu
-    so m n is its alike_ timed_ one other told = record {
+    so : (m n : KernelState) → after (run (boot a) x) cpu ≡ m → after (run (boot b) y) cpu ≡ n → AreAlike m n (Of S) (Of P) → AreTimed m n (Of P) (Of C) → m.delegations ≡ (run (boot a) x).delegations → n.delegations ≡ (run (boot b) y).delegations →
+        own_turn S (run (boot a) x) cpu ≡ None → own_turn S (run (boot b) y) cpu ≡ None → option_map unnumbered_event (event_at (run (boot b) y) cpu) ≡ option_map unnumbered_event (event_at (run (boot a) x) cpu) →
+        HomeTurn revokes (run (boot a) x) (run (boot b) y) S P C cpu
+    so m n is its alike_ timed_ kept left one other told = record {
       alike = subst (λ (s : KernelState). AreAlike s (after l cpu) (Of S) (Of P)) (sym is) (subst (λ (s : KernelState). AreAlike m s (Of S) (Of P)) (sym its) alike_);
-      timed = subst (λ (s : KernelState). AreTimed s (after l cpu) (Of P) (Of C)) (sym is) (subst (λ (s : KernelState). AreTimed m s (Of P) (Of C)) (sym its) timed_);
+      timed = record {
+        timed = subst (λ (s : KernelState). AreTimed s (after l cpu) (Of P) (Of C)) (sym is) (subst (λ (s : KernelState). AreTimed m s (Of P) (Of C)) (sym its) timed_);
+        within = λ yes. revoking_kept k l (after k cpu) (after l cpu) (Of S) (ap (λ (s : KernelState). s.delegations) is ∙ kept) (ap (λ (s : KernelState). s.delegations) its ∙ left) (together.within yes);
+      };
       deeds = own_none_deed S l cpu other ∙ sym (own_none_deed S k cpu one);
       bytes = ap (gain_for l cpu) other ∙ sym (ap (gain_for k cpu) one);
       event = told;
@@ -319,13 +311,13 @@ home_turn a b x y S P C T U cpu first second alike timed home abroad works c = b
     passes : (p : Passing) → IsPassing (run (boot a) x) cpu p → after (run (boot a) x) cpu ≡ turned (run (boot a) x) cpu (passing (run (boot a) x) p) →
         after (run (boot b) y) cpu ≡ turned (run (boot b) y) cpu (passing (run (boot b) y) p) → next_to_act (run (boot a) x) cpu ≡ None → next_to_act (run (boot b) y) cpu ≡ None →
         answer_of (turn (run (boot a) x) cpu) ≡ Stepped (passing_event (run (boot a) x) cpu p) → answer_of (turn (run (boot b) y) cpu) ≡ Stepped (passing_event (run (boot b) y) cpu p) →
-        HomeTurn (run (boot a) x) (run (boot b) y) S P C cpu
+        HomeTurn revokes (run (boot a) x) (run (boot b) y) S P C cpu
     passes p is one other none nothing first_answer second_answer =
         let same = pass_same k l (Of S) (Of P) (Of C) two sound home timed cpu p c is in
-        so _ _ one other (passed_alike k l (Of S) (Of P) two cpu p same) (passed_timed k l (Of P) (Of C) cpu p timed c is) (nobody_own S k cpu none) (nobody_own S l cpu nothing)
-        (event_told l cpu (passing_event l cpu p) second_answer ∙ ap (λ (e : Event). Some e) same.event ∙ sym (event_told k cpu (passing_event k cpu p) first_answer))
+        so _ _ one other (passed_alike k l (Of S) (Of P) two cpu p same) (passed_timed k l (Of P) (Of C) cpu p timed c is) refl refl (nobody_own S k cpu none) (nobody_own S l cpu nothing)
+        (ap (option_map unnumbered_event) (event_told l cpu (passing_event l cpu p) second_answer ∙ ap (λ (e : Event). Some e) same.event ∙ sym (event_told k cpu (passing_event k cpu p) first_answer)))
 
-    acts_ : (r : Rank) → chosen.rank ≡ Some r → due_on (run (boot a) x).times cpu ≡ None → HomeTurn (run (boot a) x) (run (boot b) y) S P C cpu
+    acts_ : (r : Rank) → chosen.rank ≡ Some r → due_on (run (boot a) x).times cpu ≡ None → HomeTurn revokes (run (boot a) x) (run (boot b) y) S P C cpu
     acts_ r is calm =
         let pays = chosen.pays r is in
         let one : next_to_act k cpu ≡ Some (stamped k r) = acts_next k cpu (stamped k r) (chosen.first ∙ ap (option_map (stamped k)) is) calm in
@@ -335,45 +327,61 @@ home_turn a b x y S P C T U cpu first second alike timed home abroad works c = b
         let its = own_is S k cpu r.actor r.sc own in
         let actor = actor_there a x cpu (stamped k r) one in
         let clock_so : HasSameClock k l r.actor = clock_same k l (Of P) (Of C) (processor_of k r.actor) timed (ap (λ (o : Option Object). C (processor_in o)) actor.object ∙ c) in
-        let at_work = working_at (HasSameClock k l r.actor) k r.actor (works r.actor r.sc own) clock_so in
+        let working = works r.actor r.sc own in
+        let within : is_giving (context k r.actor).state ≡ true → IsGivingWithin k (Of S) r.actor = λ giving. within_partition S P T k cpu r.actor r.sc sound first own giving working.state (working.gives giving) in
+        let again = works_too (Unit {0}) (RevokesNothing k (Of S)) (RevokesNothing l (Of S)) (revokes ≡ true) k l (Of S) (Of P) two r.actor pays.2 its.of (revokes_second k l S P alike also second.side) working in
+        let within_too : is_giving (context l r.actor).state ≡ true → IsGivingWithin l (Of S) r.actor = λ giving. within_partition S P U l cpu r.actor r.sc also second theirs giving again.state (again.gives giving) in
+        let state : (context l r.actor).state ≡ (context k r.actor).state = ap (λ (x : EcState). x.state) (context_same k l (Of S) (Of P) two r.actor pays.2 its.of) in
+        let at_work : IsAtWork (HasSameClock k l r.actor) (AreGivingWithin k l (Of S) r.actor) (AreRevokingWithin k l (Of S)) k r.actor =
+        work_as (Unit {0}) (HasSameClock k l r.actor) (RevokesNothing k (Of S)) (AreGivingWithin k l (Of S) r.actor) (revokes ≡ true) (AreRevokingWithin k l (Of S)) k r.actor (λ none. clock_so)
+        (λ giving asked. record { first = within giving; second = within_too (ap is_giving state ∙ giving) }) together.within working in
+        let pair = own_of k l S P cpu r.actor r.sc twins own at_work in
         let same = decided k l S P cpu r.actor r.sc twins own at_work in
-        let mine = deed_own (HasSameClock k l r.actor) k l (Of S) (Of P) two r.actor pays.2 its.of at_work in
         record {
           alike = own_alike k l S P cpu cpu r.actor r.sc twins own theirs at_work;
-          timed =
-              subst (λ (s : KernelState). AreTimed s (after l cpu) (Of P) (Of C)) (sym (own_turned S k cpu r.actor r.sc its))
-              (subst (λ (s : KernelState). AreTimed (turned k cpu (by_deed k r.actor r.sc (deed k r.actor) (is_stirred k r.actor (deed k r.actor)))) s (Of P) (Of C))
-              (sym (own_turned S l cpu r.actor r.sc (own_is S l cpu r.actor r.sc theirs) ∙ ap (λ (d : Deed). turned l cpu (by_deed l r.actor r.sc d (is_stirred l r.actor d))) same))
-              (own_timed (HasSameClock k l r.actor) k l (Of P) (Of C) cpu r.actor r.sc (deed k r.actor) (is_stirred k r.actor (deed k r.actor)) (is_stirred l r.actor (deed k r.actor)) mine timed c pays.0
-              (alike.objects r.sc pays.0) pays.1 (stamps_below a x) (stamps_below b y)));
+          timed = record {
+            timed =
+                subst (λ (s : KernelState). AreTimed s (after l cpu) (Of P) (Of C)) (sym (own_turned S k cpu r.actor r.sc its))
+                (subst (λ (s : KernelState). AreTimed (turned k cpu (by_deed k r.actor r.sc (deed k r.actor) (is_stirred k r.actor (deed k r.actor)))) s (Of P) (Of C))
+                (sym (own_turned S l cpu r.actor r.sc (own_is S l cpu r.actor r.sc theirs)))
+                (own_timed k l (Of P) (Of C) cpu r.actor r.sc (deed k r.actor) (deed l r.actor) (is_stirred k r.actor (deed k r.actor)) (is_stirred l r.actor (deed l r.actor))
+                (first_made (HasSameClock k l r.actor) k (Of S) (Of P) (deed k r.actor) (first_own (HasSameClock k l r.actor) k l (Of S) (Of P) (deed k r.actor) (deed l r.actor) pair))
+                (second_made (HasSameClock k l r.actor) k l (Of S) (Of P) (deed k r.actor) (deed l r.actor) pair) timed c pays.0
+                (alike.objects r.sc pays.0) pays.1 (stamps_below a x) (stamps_below b y)));
+            within = λ yes. record {
+              alike = own_derived k l S P cpu cpu r.actor r.sc twins own theirs at_work (together.within yes).alike;
+              first = own_derives_on (Unit {0}) a x S P T cpu r.actor r.sc revokes first own working (λ it. (together.within it).first) yes;
+              second = own_derives_on (Unit {0}) b y S P U cpu r.actor r.sc revokes second theirs again (λ it. (together.within it).second) yes;
+            };
+          };
           deeds =
-              ap (λ (o : Option (ℕ × ℕ)). option_map (λ (p : ℕ × ℕ). (p.0, deed l p.0)) o) theirs ∙ ap (λ (d : Deed). Some (r.actor, d)) same
-              ∙ sym (ap (λ (o : Option (ℕ × ℕ)). option_map (λ (p : ℕ × ℕ). (p.0, deed k p.0)) o) own);
+              ap (λ (o : Option (ℕ × ℕ)). option_map (λ (p : ℕ × ℕ). (p.0, unnumbered (deed l p.0))) o) theirs ∙ ap (λ (d : Deed). Some (r.actor, d)) same
+              ∙ sym (ap (λ (o : Option (ℕ × ℕ)). option_map (λ (p : ℕ × ℕ). (p.0, unnumbered (deed k p.0))) o) own);
           bytes = ap (gain_for l cpu) theirs ∙ own_gains k l S P cpu cpu r.actor r.sc twins own theirs at_work ∙ sym (ap (gain_for k cpu) own);
           event =
-              chosen_told l cpu (stamped l r) other ∙ ap (λ (d : Deed). Some (event_by cpu r.sc r.actor d)) same
-              ∙ sym (chosen_told k cpu (stamped k r) one);
+              ap (option_map unnumbered_event) (chosen_told l cpu (stamped l r) other) ∙ ap (λ (e : Event). Some e) (same_event cpu r.sc r.actor (deed k r.actor) (deed l r.actor) same)
+              ∙ sym (ap (option_map unnumbered_event) (chosen_told k cpu (stamped k r) one));
           works = λ ec sc its_own.
               let both = same_pair r.actor r.sc ec sc (sym theirs ∙ its_own) in
-              subst (λ (n : ℕ). IsAtWork (Unit {0}) l n) both (works_too (Unit {0}) k l (Of S) (Of P) two r.actor pays.2 its.of (works r.actor r.sc own));
+              subst (λ (n : ℕ). IsAtWork (Unit {0}) (RevokesNothing l (Of S)) (revokes ≡ true) l n) both again;
         }
 
     by_moment : (o : Option ℕ) → next_moment (run (boot a) x).times cpu ≡ o → due_on (run (boot a) x).times cpu ≡ None → choice (run (boot a) x) cpu ≡ None → choice (run (boot b) y) cpu ≡ None →
-        HomeTurn (run (boot a) x) (run (boot b) y) S P C cpu
+        HomeTurn revokes (run (boot a) x) (run (boot b) y) S P C cpu
     by_moment None quiet calm none nothing =
-        so k l (idle_stays k cpu none quiet) (idle_stays l cpu nothing (moment_so ∙ quiet)) alike timed (nobody_own S k cpu (idle_none k cpu none)) (nobody_own S l cpu (idle_none l cpu nothing))
-        (none_told l cpu nothing (moment_so ∙ quiet) ∙ sym (none_told k cpu none quiet))
+        so k l (idle_stays k cpu none quiet) (idle_stays l cpu nothing (moment_so ∙ quiet)) alike timed refl refl (nobody_own S k cpu (idle_none k cpu none)) (nobody_own S l cpu (idle_none l cpu nothing))
+        (ap (option_map unnumbered_event) (none_told l cpu nothing (moment_so ∙ quiet) ∙ sym (none_told k cpu none quiet)))
     by_moment (Some moment) comes_ calm none nothing =
         let some : IsSome (next_moment k.times cpu) = subst IsSome (sym comes_) refl in
         passes Ticks (calm, none, some) (tick_turn k cpu calm none some) (tick_turn l cpu (due_so ∙ calm) nothing (subst IsSome (sym moment_so) some)) (idle_none k cpu none) (idle_none l cpu nothing)
         (tick_answers k cpu calm none some) (tick_answers l cpu (due_so ∙ calm) nothing (subst IsSome (sym moment_so) some))
 
-    by_rank : (o : Option Rank) → chosen.rank ≡ o → due_on (run (boot a) x).times cpu ≡ None → HomeTurn (run (boot a) x) (run (boot b) y) S P C cpu
+    by_rank : (o : Option Rank) → chosen.rank ≡ o → due_on (run (boot a) x).times cpu ≡ None → HomeTurn revokes (run (boot a) x) (run (boot b) y) S P C cpu
     by_rank (Some r) is calm = acts_ r is calm
     by_rank None is calm =
         by_moment (next_moment k.times cpu) refl calm (chosen.first ∙ ap (option_map (stamped k)) is) (chosen.second ∙ ap (option_map (stamped l)) is)
 
-    by_due : (o : Option Due) → due_on (run (boot a) x).times cpu ≡ o → HomeTurn (run (boot a) x) (run (boot b) y) S P C cpu
+    by_due : (o : Option Due) → due_on (run (boot a) x).times cpu ≡ o → HomeTurn revokes (run (boot a) x) (run (boot b) y) S P C cpu
     by_due (Some what) is =
         passes (Falls what) is (due_turn k cpu what is) (due_turn l cpu what (due_so ∙ is)) (due_nobody k cpu what is) (due_nobody l cpu what (due_so ∙ is))
         (due_answers k cpu what is) (due_answers l cpu what (due_so ∙ is))

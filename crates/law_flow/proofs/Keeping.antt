@@ -20,6 +20,7 @@ use Rattle.nova_model.specs.declared.context.State.TheVariants.{Blocked}
 use Rattle.nova_model.specs.declared.deed.Deed.{Deed}
 use Rattle.nova_model.specs.declared.deed.Deed.TheVariants as deeds
 use Rattle.nova_model.specs.declared.new_object.NewObject.{NewObject}
+use Rattle.nova_model.specs.declared.transfer.Sequel.TheVariants as sequel
 use Rattle.law_forest.specs.Effects.{Falls, Passing, Ticks, ends_by, passing_ends, passing_semaphore, Answers, Becomes, Branch, Edit, Edits, Moves, Parks, Raises, Recalled, Resumes, Serves, Stays, all_edited, branched, edit_at, edited, edits_by, made_by, recalls_by, semaphore_by, semaphores_with, steps_by}
 use Rattle.law_forest.specs.Turns.{passing, turned}
 use Rattle.law_integrity.proofs.Entries.{change_each}
@@ -114,11 +115,14 @@ edits_own timed k P ec p (deeds.Downs sm) own = (tt, tt)
 edits_own timed k P ec p (deeds.Makes call target made) own = absurd own
 edits_own timed k P ec p (deeds.Opens target domain) own = absurd own
 edits_own timed k P ec p (deeds.Gives child cursor) own = absurd own
-edits_own timed k P ec p (deeds.Skips reason place cursor) own = absurd own
-edits_own timed k P ec p (deeds.Finishes item end words after) own = absurd own
-edits_own timed k P ec p (deeds.Revokes range its) own = absurd own
+edits_own timed k P ec p (deeds.Skips reason place cursor) own = tt
+edits_own timed k P ec p (deeds.Finishes item end words sequel.Item) own = (tt, tt)
+edits_own timed k P ec p (deeds.Finishes item end words sequel.Opened) own = (tt, tt)
+edits_own timed k P ec p (deeds.Finishes item end words sequel.Taken) own = ((λ h is. absurd (cc), λ sm is. absurd (cc)), tt)
+edits_own timed k P ec p (deeds.Finishes item end words (sequel.Replied caller came)) own = (tt, (tt, tt))
+edits_own timed k P ec p (deeds.Revokes range its) own = ((λ h is. absurd (cc), λ sm is. absurd (cc)), tt)
 edits_own timed k P ec p (deeds.Removes leaf) own = absurd own
-edits_own timed k P ec p deeds.Returns own = absurd own
+edits_own timed k P ec p deeds.Returns own = (tt, tt)
 
 -- SEMAPHORES
 

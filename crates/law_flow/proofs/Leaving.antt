@@ -1,6 +1,6 @@
 -- A turn of others leaves a side's part as it is.
 use Rattle.std.proofs.Common.{◌≡◌, ℕ, ◌<◌, ◌⊎◌, ◌==◌, zero, suc, List, [], ◌∷◌, length, refl, sym, ap, ◌∙◌, subst, inl, inr, arith}
-use Rattle.std.specs.Prelude.{Bool, true, false, ◌&&◌, not, filter, map, Contains, IsSome, is_some, slice_get, option_map, Option, Some, None, if◌then◌else◌}
+use Rattle.std.specs.Prelude.{Bool, true, false, ◌&&◌, not, map, IsSome, is_some, slice_get, option_map, Option, Some, None}
 use Rattle.std.specs.List.{find}
 use Rattle.std.proofs.lemmas.Bool.{and_parts, eqb-true}
 use Rattle.std.proofs.lemmas.Option.{slice_get_within}
@@ -37,6 +37,9 @@ use Rattle.law_integrity.proofs.Authorised.{authorised_by}
 use Rattle.law_integrity.proofs.Confining.{acting_one, any_held, gives_in, member_pd}
 use Rattle.law_integrity.proofs.Entries.{same_length}
 use Rattle.law_integrity.proofs.Leaving.{leaves_other}
+use Rattle.law_forest.proofs.Changes.{reached_change}
+use Rattle.law_flow.proofs.Origins.{origins_left}
+use Rattle.law_flow.proofs.Sets.{find_less}
 use Rattle.law_flow.specs.Flow.{AreAlike, IsGuarded, held_by}
 use Rattle.law_flow.proofs.Seeing.{fronts_same}
 
@@ -89,28 +92,6 @@ no_context k n o tables is kind = by_test (is_some (context_at k n)) refl
         let also : option_map is_ec (slice_get k.objects n) ≡ Some false = ap (option_map is_ec) is ∙ ap (λ (t : Bool). Some t) kind in absurd (let both : Some true ≡ Some false = sym its ∙ also in cc)
 
 -- WHAT A DOMAIN HOLDS AT A PLACE
-
-pub find_less : {T : Type 0} (p q : T → Bool) (xs : List T) → ((x : T) → Contains xs x → q x ≡ false → p x ≡ false) → find p (filter q xs) ≡ find p xs
-find_less p q [] h = refl
-find_less {T} p q (y ∷ xs) h = by_keep (q y) refl (find_less p q xs (λ x there. h x (later x there)))
-  where
-    later : (x : T) → Contains xs x → Contains (y ∷ xs) x
-    later x there = (suc there.0, omega (arith, there.1), there.2)
-
-    first : Contains (y ∷ xs) y
-    first = (0, omega arith, refl)
-
-    skips : (t : Bool) → p y ≡ t → q y ≡ false → find p (filter q xs) ≡ find p xs → find p (filter q xs) ≡ (if t then Some y else find p xs)
-    skips true is out rest = absurd (let none = h y first out in let both : true ≡ false = sym is ∙ none in cc)
-    skips false is out rest = rest
-
-    takes : (t : Bool) → find p (filter q xs) ≡ find p xs → (if t then Some y else find p (filter q xs)) ≡ (if t then Some y else find p xs)
-    takes true rest = refl
-    takes false rest = rest
-
-    by_keep : (t : Bool) → q y ≡ t → find p (filter q xs) ≡ find p xs → find p (if t then y ∷ filter q xs else filter q xs) ≡ (if p y then Some y else find p xs)
-    by_keep true is rest = takes (p y) rest
-    by_keep false is rest = skips (p y) refl is rest
 
 -- one of another domain covers no place there
 pub of_another : (kind : Kind) (pd place : ℕ) (d : Derivation) → (d.pd ≡ pd → ⊥) → covers kind pd place d ≡ false
@@ -201,6 +182,7 @@ others_leave s before S T P cpu ec apart g acts_ mine = record {
       (budget n p (object n p).0 (object n p).1));
   deadlines = λ n p. deadlines n p (object n p).0 (object n p).1;
   spaces = λ kind pd place s. ap (option_map held_by) (spaces_left k new S T P ec sound apart g actor mine by.2.grows kind pd place s);
+  origins = λ kind pd place from mine_ theirs. origins_left k.delegations new.delegations sound.forest (reached_change s before cpu) kind pd place from (spaces_left k new S T P ec sound apart g actor mine by.2.grows kind pd place mine_);
   frames = λ pd page to its leads. left.frames to.frame (g.memory pd page to its leads);
   size = turn_frames k cpu;
 }

@@ -1,4 +1,4 @@
--- What is looked up in tables that are known, and in a state in which nobody waits.
+-- What is looked up in tables that are known, and in a state in which none waits.
 use Rattle.std.proofs.Common.{◌≡◌, ◌≢◌, ◌≤◌, ◌<◌, ◌+◌, ◌-◌, ◌^◌, ◌⊎◌, ℕ, zero, suc, List, [], ◌∷◌, refl, sym, ap, subst, inl, inr, arith}
 use Rattle.std.specs.Prelude.{◌==◌, ◌&&◌, ◌||◌, Bool, true, false, map, nat_le, nat_lt, slice_get, Option, Some, None, option_map, option_and_then}
 use Rattle.std.specs.List.{find}
@@ -101,7 +101,7 @@ led list pd page to is = by_found (find (covers Mem pd page) list) refl is
         let bounds = within d.target page d.base (2 ^ d.order) to.frame frame low high in
         record { derivation = d; there = its.0; its = eqb-true d.pd pd rest.0; kind = sym (kinds_equal Mem d.kind parts.0); leads = record { first = bounds.0; last = bounds.1 } }
 
--- ONE THAT WAITS FOR NOBODY
+-- A CONTEXT THAT WAITS FOR NONE
 
 abbrev pub IsCalm : Option State → Type 0
 IsCalm None = Unit {0}

@@ -56,7 +56,7 @@ to_portal = record { id = 10; pd = 0; kind = Obj; base = 64; order = 0; rights =
 abbrev first_portal : Derivation
 first_portal = record { id = 13; pd = 9; kind = Obj; base = 64; order = 0; rights = record { 0 = 4 }; target = 7; parent = Some 10 }
 
-abbrev ranges_there : List Derivation
+abbrev pub ranges_there : List Derivation
 ranges_there =
     of_root ∷
     record { id = 1; pd = 0; kind = Obj; base = 0; order = 0; rights = record { 0 = 1 }; target = 0; parent = None } ∷
@@ -146,7 +146,7 @@ Fits n other = Unit {0}
 all_fit : AllAt Fits objects_there
 all_fit = (tt, ((λ h. no h, λ h. no h), (inl refl, (tt, (tt, ((λ h. (refl, refl), λ h. no h), ((λ h. no h, λ h c. no c), (λ h. refl, (λ h. no h, (tt, (tt, ((λ h. (refl, refl), λ h. no h), ((λ h. no h, λ h c. no c), (inr (inr refl), (inr (inl refl), tt)))))))))))))))
 
--- everybody is parked, dead or a guest
+-- each context is parked, dead or a guest
 abbrev IsPlaced : ℕ → Option State → Type 0
 IsPlaced n None = Unit {0}
 IsPlaced n (Some Dead) = Unit {0}
@@ -385,3 +385,6 @@ meets_timeless = timeless (run (boot two_homes) (replicate 65 0)) shown
 
 pub meets_divided : IsDivided (run (boot two_homes) (replicate 65 0)) (Of first_domains) (Of other_domains) (Of first_objects) (Of first_processors)
 meets_divided = divided (run (boot two_homes) (replicate 65 0)) shown
+
+pub ranges_shown : (run (boot two_homes) (replicate 65 0)).delegations.list ≡ ranges_there
+ranges_shown = shown.ranges_are

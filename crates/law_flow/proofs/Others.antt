@@ -1,4 +1,4 @@
--- Turns of others, and of nobody, one after another: the side stays as it is, and guarded.
+-- Turns of others, and turns in which none acts, one after another: the side stays as it is, and guarded.
 use Rattle.std.proofs.Common.{◌≡◌, ℕ, ◌<◌, ◌⊎◌, List, ◌∷◌, length, sym, ap, ◌∙◌, subst, inl, inr, arith}
 use Rattle.std.specs.Prelude.{true, ◌||◌, eqb, Contains, IsSome, is_some, slice_get, option_map, option_and_then, Option, Some, None}
 use Rattle.std.specs.List.{find}
@@ -22,7 +22,7 @@ use Rattle.nova_model.specs.declared.times.Due.TheVariants as due
 use Rattle.law_isolation.specs.Sound.{IsSound}
 use Rattle.law_integrity.specs.Integrity.{ClearedAwake, ClearedLate, ContextByTime, DeadlineByTime, IsByTime, IsComing, LeftByLate, Rung, RungAwake, SemaphoreByTime, TimedOut}
 use Rattle.law_integrity.proofs.Entries.{same_length}
-use Rattle.law_flow.specs.Flow.{AreAlike, Front, IsSide, IsTimeless, held_by}
+use Rattle.law_flow.specs.Flow.{AreAlike, Front, IsSide, IsTimeless, held_by, origin_of}
 use Rattle.law_flow.proofs.Leaving.{raw, some_there}
 use Rattle.law_flow.proofs.Seeing.{by_front, caller_so, fronts_same}
 
@@ -66,6 +66,7 @@ time_leaves k new S P cpu what sound again side there foreign t = record {
   ticks = λ n p. ap (λ (bs : List (Option Budget)). option_map (λ (b : Budget). b.ticks) (entry (slice_get bs n))) t.budgets.budgets;
   deadlines = λ n p. raw k.times.deadlines new.times.deadlines n (at_deadline n p) (still_deadline n p) (by_deadline n p (t.deadlines n));
   spaces = λ kind pd place s. ap (λ (f : Delegations). option_map held_by (find (covers kind pd place) f.list)) t.delegations;
+  origins = λ kind pd place from s also. ap (λ (f : Delegations). origin_of f.list from (find (covers kind pd place) f.list)) t.delegations;
   frames = λ pd page to s leads. ap (λ (m : Memory). slice_get m.ram to.frame) t.memory;
   size = ap (λ (m : Memory). length m.ram) t.memory;
 }

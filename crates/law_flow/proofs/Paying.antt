@@ -17,8 +17,7 @@ use Rattle.law_forest.specs.Turns.{budgets_paid, turned}
 use Rattle.law_turns.proofs.Links.{place}
 use Rattle.law_turns.proofs.Setting.{entry_itself, entry_other}
 use Rattle.law_flow.specs.Processors.{AreTimed, left_at, stamp_at, stamp_in}
-use Rattle.law_flow.proofs.Deciding.{IsOwn}
-use Rattle.law_flow.proofs.Doing.{by_deed, made_none}
+use Rattle.law_flow.proofs.Doing.{by_deed}
 use Rattle.law_flow.proofs.Tables.{set_same, unjoined}
 use Rattle.law_flow.proofs.Timing.{clock_same}
 use Rattle.law_flow.proofs.Choosing.{some_same}
@@ -177,11 +176,11 @@ clocks_ticked k l P C cpu t c =
 
 -- A TURN THAT IS PAID
 
-pub own_timed : (timed : Type 0) (k l : KernelState) (P C : ℕ → Type 0) (cpu ec sc : ℕ) (d : Deed) (stirs others : ℕ → Bool) → IsOwn timed P d → AreTimed k l P C → C cpu → P sc →
+pub own_timed : (k l : KernelState) (P C : ℕ → Type 0) (cpu ec sc : ℕ) (d e : Deed) (stirs others : ℕ → Bool) → made_by d ≡ None → made_by e ≡ None → AreTimed k l P C → C cpu → P sc →
     slice_get l.objects sc ≡ slice_get k.objects sc → IsSome (budget_at k sc) →
     ((n : ℕ) → IfSome (budget_at k n) (λ b. b.stamp < k.next_stamp)) → ((n : ℕ) → IfSome (budget_at l n) (λ b. b.stamp < l.next_stamp)) →
-    AreTimed (turned k cpu (by_deed k ec sc d stirs)) (turned l cpu (by_deed l ec sc d others)) P C
-own_timed timed k l P C cpu ec sc d stirs others own t c p object budgeted below under = record {
+    AreTimed (turned k cpu (by_deed k ec sc d stirs)) (turned l cpu (by_deed l ec sc e others)) P C
+own_timed k l P C cpu ec sc d e stirs others made none t c p object budgeted below under = record {
   clocks = clocks_ticked k l P C cpu t c;
   alarms = t.alarms;
   same_alarms = t.same_alarms;
@@ -189,21 +188,18 @@ own_timed timed k l P C cpu ec sc d stirs others own t c p object budgeted below
   order = λ m n q r there also. order_so m n q r there also;
 }
   where
-    made : made_by d ≡ None
-    made = made_none timed P d own
-
     ours : (n : ℕ) → budget_at (turned k cpu (by_deed k ec sc d stirs)) n ≡ budget_in (paid_in k.budgets sc (quantum_in (slice_get k.objects sc)) k.next_stamp) n
     ours n =
         ap₂ (λ (os : List Object) (o : Option NewObject). budget_in (paid_in (joined k.budgets (option_map (budget_of k.next_stamp) o)) sc (quantum_in (slice_get os sc)) (stamp_with k.next_stamp o)) n)
         (unjoined k.objects object_of (made_by d) made) made
 
-    theirs : (n : ℕ) → budget_at (turned l cpu (by_deed l ec sc d others)) n ≡ budget_in (paid_in l.budgets sc (quantum_in (slice_get k.objects sc)) l.next_stamp) n
+    theirs : (n : ℕ) → budget_at (turned l cpu (by_deed l ec sc e others)) n ≡ budget_in (paid_in l.budgets sc (quantum_in (slice_get k.objects sc)) l.next_stamp) n
     theirs n =
         ap₂ (λ (os : List Object) (o : Option NewObject). budget_in (paid_in (joined l.budgets (option_map (budget_of l.next_stamp) o)) sc (quantum_in (slice_get os sc)) (stamp_with l.next_stamp o)) n)
-        (unjoined l.objects object_of (made_by d) made) made
+        (unjoined l.objects object_of (made_by e) none) none
         ∙ ap (λ (o : Option Object). budget_in (paid_in l.budgets sc (quantum_in o) l.next_stamp) n) object
 
-    left_so : (n : ℕ) → P n → left_at (turned l cpu (by_deed l ec sc d others)) n ≡ left_at (turned k cpu (by_deed k ec sc d stirs)) n
+    left_so : (n : ℕ) → P n → left_at (turned l cpu (by_deed l ec sc e others)) n ≡ left_at (turned k cpu (by_deed k ec sc d stirs)) n
     left_so n q =
         ap left_in (theirs n) ∙ paid_left k.budgets l.budgets sc (quantum_in (slice_get k.objects sc)) k.next_stamp l.next_stamp n (t.left sc p) (t.left n q) ∙ sym (ap left_in (ours n))
 
@@ -228,23 +224,23 @@ own_timed timed k l P C cpu ec sc d stirs others own t c p object budgeted below
     stamp_below None next there h = absurd (cc)
 
     order_so : (m n : ℕ) → P m → P n → IsSome (budget_at (turned k cpu (by_deed k ec sc d stirs)) m) → IsSome (budget_at (turned k cpu (by_deed k ec sc d stirs)) n) →
-        nat_lt (stamp_at (turned l cpu (by_deed l ec sc d others)) m) (stamp_at (turned l cpu (by_deed l ec sc d others)) n)
+        nat_lt (stamp_at (turned l cpu (by_deed l ec sc e others)) m) (stamp_at (turned l cpu (by_deed l ec sc e others)) n)
         ≡ nat_lt (stamp_at (turned k cpu (by_deed k ec sc d stirs)) m) (stamp_at (turned k cpu (by_deed k ec sc d stirs)) n)
     order_so m n q r there also =
         let m_there = was_there m there in
         let n_there = was_there n also in
         let b = some_of (budget_at k sc) budgeted in
-        let e = some_of (budget_at l sc) (left_some (budget_at k sc) (budget_at l sc) (t.left sc p) budgeted) in
-        let same_left : e.0.left ≡ b.0.left = same_Some e.0.left b.0.left (sym (ap left_in e.1) ∙ t.left sc p ∙ ap left_in b.1) in
+        let f = some_of (budget_at l sc) (left_some (budget_at k sc) (budget_at l sc) (t.left sc p) budgeted) in
+        let same_left : f.0.left ≡ b.0.left = same_Some f.0.left b.0.left (sym (ap left_in f.1) ∙ t.left sc p ∙ ap left_in b.1) in
         let stamp_k = λ (x : ℕ). ap stamp_in (ours x) ∙ charged_stamp k.budgets sc (quantum_in (slice_get k.objects sc)) k.next_stamp x b.0 b.1 in
-        let stamp_l = λ (x : ℕ). ap stamp_in (theirs x) ∙ charged_stamp l.budgets sc (quantum_in (slice_get k.objects sc)) l.next_stamp x e.0 e.1
-        ∙ ap (λ (n : ℕ). if x == sc then (if n - 1 == 0 then l.next_stamp else e.0.stamp) else stamp_in (budget_in l.budgets x)) same_left in
+        let stamp_l = λ (x : ℕ). ap stamp_in (theirs x) ∙ charged_stamp l.budgets sc (quantum_in (slice_get k.objects sc)) l.next_stamp x f.0 f.1
+        ∙ ap (λ (n : ℕ). if x == sc then (if n - 1 == 0 then l.next_stamp else f.0.stamp) else stamp_in (budget_in l.budgets x)) same_left in
         ap₂ nat_lt (stamp_l m) (stamp_l n)
-        ∙ orders_after m n sc b.0.left (stamp_at k m) (stamp_at k n) (stamp_at l m) (stamp_at l n) b.0.stamp e.0.stamp k.next_stamp l.next_stamp
+        ∙ orders_after m n sc b.0.left (stamp_at k m) (stamp_at k n) (stamp_at l m) (stamp_at l n) b.0.stamp f.0.stamp k.next_stamp l.next_stamp
         (stamp_below (budget_at k m) k.next_stamp m_there (below m)) (stamp_below (budget_at k n) k.next_stamp n_there (below n))
         (stamp_below (budget_at l m) l.next_stamp (left_some (budget_at k m) (budget_at l m) (t.left m q) m_there) (under m))
         (stamp_below (budget_at l n) l.next_stamp (left_some (budget_at k n) (budget_at l n) (t.left n r) n_there) (under n))
         (λ is. ap (stamp_at k) is ∙ ap stamp_in b.1, λ is. ap (stamp_at k) is ∙ ap stamp_in b.1)
-        (λ is. ap (stamp_at l) is ∙ ap stamp_in e.1, λ is. ap (stamp_at l) is ∙ ap stamp_in e.1)
+        (λ is. ap (stamp_at l) is ∙ ap stamp_in f.1, λ is. ap (stamp_at l) is ∙ ap stamp_in f.1)
         (t.order m n q r m_there n_there)
         ∙ sym (ap₂ nat_lt (stamp_k m) (stamp_k n))

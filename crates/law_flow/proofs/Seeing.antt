@@ -23,13 +23,14 @@ use Rattle.nova_model.specs.Delegations.{covers, has_place, is_same_kind, page_i
 use Rattle.nova_model.specs.Edges.{AreEdges, after_edges, caller_in, circle, cpu_in, edge, edge_of, is_dead, state_in}
 use Rattle.nova_model.specs.Portals.{handler_in, handler_of, identifier, ip_in, ip_of, mtd_in, number_in}
 use Rattle.nova_model.specs.Semaphores.{semaphore, semaphore_in}
-use Rattle.nova_model.specs.State.{Contexts, KernelState, Semaphore, context, context_in, ec_in, entry, event_base, event_base_in, is_local_in, is_local_thread, is_thread, is_thread_in, message, message_in, own_words, pd_in, pd_of, processor_in, processor_of}
+use Rattle.nova_model.specs.State.{Contexts, KernelState, Semaphore, context, context_in, ec_in, entry, event_base, event_base_in, is_local_in, is_local_thread, is_thread, is_thread_in, message, message_in, own_words, pd_in, pd_of, processor_in, processor_of, transfer, transfer_in}
 use Rattle.nova_model.specs.declared.admit.Admit.TheVariants.{Refused}
 use Rattle.nova_model.specs.declared.admit.ExitAdmit.TheVariants as exit
 use Rattle.nova_model.specs.declared.context.EcState.{EcState}
 use Rattle.nova_model.specs.declared.context.Mark.{Mark}
 use Rattle.nova_model.specs.declared.context.State.{State}
 use Rattle.nova_model.specs.declared.delegation.Derivation.{Derivation}
+use Rattle.nova_model.specs.declared.transfer.Transfer.{Transfer}
 use Rattle.nova_ec.proofs.Ends.{circles_are_ways}
 use Rattle.law_forest.proofs.Members.{contains_from_in, found_in}
 use Rattle.law_forest.proofs.Transfers.{kinds_equal}
@@ -122,6 +123,9 @@ local_same k l S P b n p = ap is_local_in (b.alike.objects n p)
 
 pub message_same : (k l : KernelState) (S P : ℕ → Type 0) → Both k l S P → (n : ℕ) → P n → S (pd_of k n) → message l n ≡ message k n
 message_same k l S P b n p s = ap (λ (o : Option (Option (List ℕ))). message_in (entry o)) (b.alike.messages n p s)
+
+pub transfer_same : (k l : KernelState) (S P : ℕ → Type 0) → Both k l S P → (n : ℕ) → P n → S (pd_of k n) → transfer l n ≡ transfer k n
+transfer_same k l S P b n p s = ap (λ (o : Option (Option Transfer)). transfer_in (entry o)) (b.alike.transfers n p s)
 
 pub semaphore_same : (k l : KernelState) (S P : ℕ → Type 0) → Both k l S P → (n : ℕ) → P n → semaphore l.semaphores n ≡ semaphore k.semaphores n
 semaphore_same k l S P b n p = ap (λ (o : Option (Option Semaphore)). semaphore_in (entry o)) (b.alike.semaphores n p)

@@ -1,6 +1,7 @@
 -- Lines of derivations that stay, and one set under two names.
-use Rattle.std.proofs.Common.{◌≡◌, ℕ, ◌==◌, zero, suc, List, ◌∷◌, refl, sym, ap, ◌∙◌, subst, inl, inr, arith}
-use Rattle.std.specs.Prelude.{false, not, slice_get, option_and_then, Option, Some, None}
+use Rattle.std.proofs.Common.{◌≡◌, ℕ, ◌==◌, zero, suc, List, [], ◌∷◌, refl, sym, ap, ◌∙◌, subst, inl, inr, arith}
+use Rattle.std.specs.Prelude.{Bool, true, false, not, filter, Contains, slice_get, option_and_then, Option, Some, None, if◌then◌else◌}
+use Rattle.std.specs.List.{find}
 use Rattle.nova_objects.specs.declared.object.Object.{Object}
 use Rattle.nova_objects.specs.declared.object.Object.TheVariants.{Pd, Ec, Sc, Pt, Sm}
 use Rattle.nova_model.specs.Delegations.{Delegations, is_child_of, is_id, parent_of, with_id, without}
@@ -15,7 +16,28 @@ use Rattle.law_forest.proofs.Lines.{line_none}
 use Rattle.law_forest.proofs.Members.{IsIn, all_at}
 use Rattle.law_forest.proofs.Scopes.{KeepsParents, more_keeps, next_childless, parent_found}
 use Rattle.law_integrity.specs.Confined.{AreSetsApart, Holds, HoldsAny, IsClosed, IsIdle, IsMember, IsOwned}
-use Rattle.law_flow.proofs.Leaving.{find_less}
+
+pub find_less : {T : Type 0} (p q : T → Bool) (xs : List T) → ((x : T) → Contains xs x → q x ≡ false → p x ≡ false) → find p (filter q xs) ≡ find p xs
+find_less p q [] h = refl
+find_less {T} p q (y ∷ xs) h = by_keep (q y) refl (find_less p q xs (λ x there. h x (later x there)))
+  where
+    later : (x : T) → Contains xs x → Contains (y ∷ xs) x
+    later x there = (suc there.0, omega (arith, there.1), there.2)
+
+    first : Contains (y ∷ xs) y
+    first = (0, omega arith, refl)
+
+    skips : (t : Bool) → p y ≡ t → q y ≡ false → find p (filter q xs) ≡ find p xs → find p (filter q xs) ≡ (if t then Some y else find p xs)
+    skips true is out rest = absurd (let none = h y first out in let both : true ≡ false = sym is ∙ none in cc)
+    skips false is out rest = rest
+
+    takes : (t : Bool) → find p (filter q xs) ≡ find p xs → (if t then Some y else find p (filter q xs)) ≡ (if t then Some y else find p xs)
+    takes true rest = refl
+    takes false rest = rest
+
+    by_keep : (t : Bool) → q y ≡ t → find p (filter q xs) ≡ find p xs → find p (if t then y ∷ filter q xs else filter q xs) ≡ (if p y then Some y else find p xs)
+    by_keep true is rest = takes (p y) rest
+    by_keep false is rest = skips (p y) refl is rest
 
 -- LINES
 

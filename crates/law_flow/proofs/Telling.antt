@@ -1,6 +1,6 @@
 -- What the turns of a processor tell: their events are of it, so that a trace is told apart by processors.
 use Rattle.std.proofs.Common.{◌≡◌, ℕ, List, ◌∷◌, refl, ap, ◌∙◌}
-use Rattle.std.specs.Prelude.{Bool, true, false, IfSome, Option, Some, None, option_map, if◌then◌else◌}
+use Rattle.std.specs.Prelude.{Bool, true, false, IfSome, filter, map, Option, Some, None, option_map, if◌then◌else◌}
 use Rattle.nova_model.specs.Choice.{Candidate, choice, in_front, next_to_act}
 use Rattle.nova_model.specs.Deeds.{deed}
 use Rattle.nova_model.specs.State.{KernelState}
@@ -11,7 +11,7 @@ use Rattle.nova_model.specs.declared.event.Turn.TheVariants.{Stepped}
 use Rattle.law_forest.proofs.Actors.{chosen_answers}
 use Rattle.law_forest.proofs.Turning.{event_answered, event_at, event_in, none_taken, outcome}
 use Rattle.law_turns.proofs.Traces.{turning_on}
-use Rattle.law_flow.specs.Processors.{events_on}
+use Rattle.law_flow.specs.Processors.{events_on, unnumbered_event}
 
 -- the event of a turn by its answer, and of one who acts
 pub event_told : (k : KernelState) (cpu : ℕ) (e : Event) → answer_of (turn k cpu) ≡ Stepped e → event_at k cpu ≡ Some e
@@ -26,13 +26,16 @@ none_told k cpu none quiet = ap (option_map (λ (s : Step). s.event)) (none_take
 on_it : (k : KernelState) (cpu : ℕ) → IfSome (event_at k cpu) (λ e. e.cpu ≡ cpu)
 on_it k cpu = outcome (λ s o. IfSome o (λ e. e.cpu ≡ cpu)) k cpu (λ none. tt) (turning_on k cpu)
 
+abbrev on_these : (ℕ → Bool) → List Event → List Event
+on_these C events = filter (λ (e : Event). C e.cpu) events
+
 -- of a trace the events of the side's processors begin with the event of such a turn
-pub told_here : (C : ℕ → Bool) (k : KernelState) (cpu : ℕ) (rest : List Event) → C cpu ≡ true → events_on C (in_front (event_at k cpu) rest) ≡ in_front (event_at k cpu) (events_on C rest)
+pub told_here : (C : ℕ → Bool) (k : KernelState) (cpu : ℕ) (rest : List Event) → C cpu ≡ true → events_on C (in_front (event_at k cpu) rest) ≡ in_front (option_map unnumbered_event (event_at k cpu)) (events_on C rest)
 told_here C k cpu rest c = by_event (event_at k cpu) (on_it k cpu)
   where
-    by_event : (o : Option Event) → IfSome o (λ e. e.cpu ≡ cpu) → events_on C (in_front o rest) ≡ in_front o (events_on C rest)
+    by_event : (o : Option Event) → IfSome o (λ e. e.cpu ≡ cpu) → events_on C (in_front o rest) ≡ in_front (option_map unnumbered_event o) (events_on C rest)
     by_event None on = refl
-    by_event (Some e) on = ap (λ (t : Bool). if t then e ∷ events_on C rest else events_on C rest) (ap C on ∙ c)
+    by_event (Some e) on = ap (λ (t : Bool). map unnumbered_event (if t then e ∷ on_these C rest else on_these C rest)) (ap C on ∙ c)
 
 -- and leave out that of a turn elsewhere
 pub told_away : (C : ℕ → Bool) (k : KernelState) (cpu : ℕ) (rest : List Event) → C cpu ≡ false → events_on C (in_front (event_at k cpu) rest) ≡ events_on C rest
@@ -40,4 +43,4 @@ told_away C k cpu rest c = by_event (event_at k cpu) (on_it k cpu)
   where
     by_event : (o : Option Event) → IfSome o (λ e. e.cpu ≡ cpu) → events_on C (in_front o rest) ≡ events_on C rest
     by_event None on = refl
-    by_event (Some e) on = ap (λ (t : Bool). if t then e ∷ events_on C rest else events_on C rest) (ap C on ∙ c)
+    by_event (Some e) on = ap (λ (t : Bool). map unnumbered_event (if t then e ∷ on_these C rest else on_these C rest)) (ap C on ∙ c)

@@ -28,7 +28,7 @@ abbrev pub listed : {X Y : Type 0} → (ℕ → X → Option Y) → ℕ → List
 listed f n [] = []
 listed f n (x ∷ xs) = before_rest (f n x) (listed f (n + 1) xs)
 
--- two lists in which each number has the same list the same, however much longer one is
+-- two lists in which each number has the same list the same, however much longer one of them is
 pub listed_same : {X Y : Type 0} (f g : ℕ → X → Option Y) (n : ℕ) (xs ys : List X) →
     ((i m : ℕ) → m ≡ n + i → option_and_then (g m) (slice_get ys i) ≡ option_and_then (f m) (slice_get xs i)) → listed g n ys ≡ listed f n xs
 listed_same f g n [] [] same = refl
@@ -92,7 +92,7 @@ alarms_same k l P C cpu t c =
 
 -- DEADLINES
 
--- one with a deadline on a processor of the side's is of the side
+-- a context with a deadline on a processor of the side's is of the side
 pub deadline_mine : (k : KernelState) (S P C : ℕ → Type 0) → IsSound k → IsSide k S P → IsAtHome k S P C → (n : ℕ) (d : Deadline) → deadline_of k.times n ≡ Some d → C d.cpu → P n
 deadline_mine k S P C sound side home n d at c = by_object (slice_get k.objects n) refl kind processor
   where
@@ -128,7 +128,7 @@ deadline_here cpu n d e is = by_test (d.cpu == cpu) refl is
     by_test true same h = eqb-true d.cpu cpu same
     by_test false same h = absurd (cc)
 
--- the entry of a number, where nothing or nobody is there
+-- the entry of a number, where nothing or no context is there
 at_number : (cpu n : ℕ) (o : Option (Option Deadline)) → option_and_then (deadline_entry cpu n) o ≡ deadline_entry cpu n (entry o)
 at_number cpu n None = refl
 at_number cpu n (Some None) = refl

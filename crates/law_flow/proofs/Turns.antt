@@ -14,8 +14,10 @@ use Rattle.nova_model.specs.Capabilities.{is_ec}
 use Rattle.nova_model.specs.Choice.{Candidate, in_front, next_to_act}
 use Rattle.nova_model.specs.Deeds.{deed}
 use Rattle.nova_model.specs.Inputs.{is_stirred}
+use Rattle.nova_model.specs.Edges.{is_giving}
 use Rattle.nova_model.specs.Runs.{after, run}
 use Rattle.nova_model.specs.State.{KernelState, context, pd_in, pd_of}
+use Rattle.nova_model.specs.declared.context.EcState.{EcState}
 use Rattle.nova_model.specs.declared.deed.Deed.{Deed}
 use Rattle.nova_model.specs.declared.log.LogByte.{LogByte}
 use Rattle.nova_model.specs.Memory.{Memory}
@@ -29,11 +31,11 @@ use Rattle.law_isolation.proofs.Runs.{turn_sound}
 use Rattle.law_origins.specs.Giving.{Acts}
 use Rattle.law_origins.proofs.Actors.{is_able}
 use Rattle.law_integrity.specs.Confined.{Of}
-use Rattle.law_flow.specs.Flow.{AreAlike, AreLeftAlone, AreAtWorkTimeless, HasSameClock, IsSide, IsAtWork, IsCallAtWork, if_own, gain_for, own_bytes, own_deeds, own_turn, schedule}
-use Rattle.law_flow.proofs.Seeing.{Both, reach_same}
-use Rattle.law_flow.proofs.Deciding.{deed_own, deed_same}
-use Rattle.law_flow.proofs.Doing.{by_deed, memory_same, turned_alike}
-use Rattle.law_flow.proofs.Keeping.{turned_side}
+use Rattle.law_flow.specs.Flow.{AreAlike, AreDerivedAlike, AreGivingWithin, AreLeftAlone, AreRevokingWithin, DerivesWithin, AreAtWorkTimeless, GivesWithin, HasSameClock, IsSide, IsAtWork, IsCallAtWork, IsGivingWithin, RevokesNothing, if_own, gain_for, own_bytes, own_deeds, own_turn, schedule, unnumbered}
+use Rattle.law_flow.proofs.Seeing.{Both, context_same, reach_same}
+use Rattle.law_flow.proofs.Doing.{by_deed, memory_same}
+use Rattle.law_flow.proofs.Pairs.{AreOwn, first_own, own_both, own_turned_alike, own_turned_side, pair_derived, same_unnumbered, store_so}
+use Rattle.law_flow.proofs.Taking.{derived_kept, left_gains}
 
 -- THE SAME PART
 
@@ -49,6 +51,7 @@ alike_flipped k l S P a = record {
   ticks = λ n p. sym (a.ticks n p);
   deadlines = λ n p. sym (a.deadlines n p);
   spaces = λ kind pd place s. sym (a.spaces kind pd place s);
+  origins = λ kind pd place from s t. sym (a.origins kind pd place from s t);
   frames = λ pd page to s leads. sym (a.frames pd page to s (sym (reach_same k l S P a pd page s) ∙ leads));
   size = sym a.size;
 }
@@ -68,6 +71,7 @@ alike_itself k S P = record {
   ticks = λ n p. refl;
   deadlines = λ n p. refl;
   spaces = λ kind pd place s. refl;
+  origins = λ kind pd place from s t. refl;
   frames = λ pd page to s leads. refl;
   size = refl;
 }
@@ -84,6 +88,7 @@ alike_through k l m S P a b = record {
   ticks = λ n p. b.ticks n p ∙ a.ticks n p;
   deadlines = λ n p. b.deadlines n p ∙ a.deadlines n p;
   spaces = λ kind pd place s. b.spaces kind pd place s ∙ a.spaces kind pd place s;
+  origins = λ kind pd place from s t. b.origins kind pd place from s t ∙ a.origins kind pd place from s t;
   frames = λ pd page to s leads. b.frames pd page to s (reach_same k l S P a pd page s ∙ leads) ∙ a.frames pd page to s leads;
   size = b.size ∙ a.size;
 }
@@ -146,22 +151,24 @@ pub record AreTwins (k l : KernelState) (S P : ℕ → Bool) : Type 0 where
 pub both : (k l : KernelState) (S P : ℕ → Bool) → AreTwins k l S P → Both k l (Of S) (Of P)
 both k l S P t = record { side = t.side; alike = t.alike; first = t.first.kept.edges; second = t.second.kept.edges }
 
-pub decided : (k l : KernelState) (S P : ℕ → Bool) (cpu ec sc : ℕ) → AreTwins k l S P → own_turn S k cpu ≡ Some (ec, sc) → IsAtWork (HasSameClock k l ec) k ec → deed l ec ≡ deed k ec
-decided k l S P cpu ec sc t own works =
+pub own_of : (k l : KernelState) (S P : ℕ → Bool) (cpu ec sc : ℕ) → AreTwins k l S P → own_turn S k cpu ≡ Some (ec, sc) → IsAtWork (HasSameClock k l ec) (AreGivingWithin k l (Of S) ec) (AreRevokingWithin k l (Of S)) k ec →
+    AreOwn (HasSameClock k l ec) k l (Of S) (Of P) (deed k ec) (deed l ec)
+own_of k l S P cpu ec sc t own works =
     let its = own_is S k cpu ec sc own in
-    deed_same k l (Of S) (Of P) (both k l S P t) ec (own_there S k (Of P) cpu ec sc t.first t.side its) its.of works
+    own_both k l (Of S) (Of P) (both k l S P t) t.first.forest t.second.forest ec (own_there S k (Of P) cpu ec sc t.first t.side its) its.of works
+
+pub decided : (k l : KernelState) (S P : ℕ → Bool) (cpu ec sc : ℕ) → AreTwins k l S P → own_turn S k cpu ≡ Some (ec, sc) → IsAtWork (HasSameClock k l ec) (AreGivingWithin k l (Of S) ec) (AreRevokingWithin k l (Of S)) k ec → unnumbered (deed l ec) ≡ unnumbered (deed k ec)
+decided k l S P cpu ec sc t own works = same_unnumbered (HasSameClock k l ec) k l (Of S) (Of P) (deed k ec) (deed l ec) (own_of k l S P cpu ec sc t own works)
 
 pub own_alike : (k l : KernelState) (S P : ℕ → Bool) (cpu other ec sc : ℕ) → AreTwins k l S P → own_turn S k cpu ≡ Some (ec, sc) → own_turn S l other ≡ Some (ec, sc) →
-    IsAtWork (HasSameClock k l ec) k ec → AreAlike (after k cpu) (after l other) (Of S) (Of P)
+    IsAtWork (HasSameClock k l ec) (AreGivingWithin k l (Of S) ec) (AreRevokingWithin k l (Of S)) k ec → AreAlike (after k cpu) (after l other) (Of S) (Of P)
 own_alike k l S P cpu other ec sc t own also works =
     let its = own_is S k cpu ec sc own in
     let b = both k l S P t in
     let p = own_there S k (Of P) cpu ec sc t.first t.side its in
-    let same = deed_same k l (Of S) (Of P) b ec p its.of works in
-    let theirs = own_turned S l other ec sc (own_is S l other ec sc also) ∙ ap (λ (d : Deed). turned l other (by_deed l ec sc d (is_stirred l ec d))) same in
     subst (λ (s : KernelState). AreAlike s (after l other) (Of S) (Of P)) (sym (own_turned S k cpu ec sc its))
-    (subst (λ (s : KernelState). AreAlike (turned k cpu (by_deed k ec sc (deed k ec) (is_stirred k ec (deed k ec)))) s (Of S) (Of P)) (sym theirs)
-    (turned_alike (HasSameClock k l ec) k l (Of S) (Of P) b cpu other ec sc p its.of (deed k ec) (deed_own (HasSameClock k l ec) k l (Of S) (Of P) b ec p its.of works) (is_stirred k ec (deed k ec)) (is_stirred l ec (deed k ec))))
+    (subst (λ (s : KernelState). AreAlike (turned k cpu (by_deed k ec sc (deed k ec) (is_stirred k ec (deed k ec)))) s (Of S) (Of P)) (sym (own_turned S l other ec sc (own_is S l other ec sc also)))
+    (own_turned_alike (HasSameClock k l ec) k l (Of S) (Of P) b t.first.forest t.second.forest cpu other ec sc p its.of (deed k ec) (deed l ec) (own_of k l S P cpu ec sc t own works) (is_stirred k ec (deed k ec)) (is_stirred l ec (deed l ec))))
 
 -- what it stores to consoles is the same
 drop_all : (xs ys : List LogByte) → drop (length xs) (xs ++ ys) ≡ ys
@@ -172,40 +179,67 @@ gained_is : (m later : Memory) (gained : List LogByte) → later.log ≡ m.log +
 gained_is m later gained is = ap (drop (length m.log)) is ∙ drop_all m.log gained
 
 pub own_gains : (k l : KernelState) (S P : ℕ → Bool) (cpu other ec sc : ℕ) → AreTwins k l S P → own_turn S k cpu ≡ Some (ec, sc) → own_turn S l other ≡ Some (ec, sc) →
-    IsAtWork (HasSameClock k l ec) k ec → gain_for l other (Some (ec, sc)) ≡ gain_for k cpu (Some (ec, sc))
+    IsAtWork (HasSameClock k l ec) (AreGivingWithin k l (Of S) ec) (AreRevokingWithin k l (Of S)) k ec → gain_for l other (Some (ec, sc)) ≡ gain_for k cpu (Some (ec, sc))
 own_gains k l S P cpu other ec sc t own also works =
     let its = own_is S k cpu ec sc own in
     let b = both k l S P t in
     let p = own_there S k (Of P) cpu ec sc t.first t.side its in
-    let same = deed_same k l (Of S) (Of P) b ec p its.of works in
+    let same = store_so (HasSameClock k l ec) k l l (Of S) (Of P) ec (deed k ec) (deed l ec) (own_of k l S P cpu ec sc t own works) in
     let stores = (memory_same k l (Of S) (Of P) b ec p its.of (deed k ec)).gains in
     let ours : (after k cpu).memory ≡ memory_with k.memory (store_by k ec (deed k ec)) = ap (λ (s : KernelState). s.memory) (own_turned S k cpu ec sc its) in
     let theirs : (after l other).memory ≡ memory_with l.memory (store_by l ec (deed k ec)) =
-    ap (λ (s : KernelState). s.memory) (own_turned S l other ec sc (own_is S l other ec sc also)) ∙ ap (λ (d : Deed). memory_with l.memory (store_by l ec d)) same in
+    ap (λ (s : KernelState). s.memory) (own_turned S l other ec sc (own_is S l other ec sc also)) ∙ ap (memory_with l.memory) same in
     ap (λ (m : Memory). drop (length l.memory.log) m.log) theirs ∙ gained_is l.memory (memory_with l.memory (store_by l ec (deed k ec))) stores.gained stores.second
     ∙ sym (ap (λ (m : Memory). drop (length k.memory.log) m.log) ours ∙ gained_is k.memory (memory_with k.memory (store_by k ec (deed k ec))) stores.gained stores.first)
 
 pub own_side : (k l : KernelState) (S P : ℕ → Bool) (cpu ec sc : ℕ) → AreTwins k l S P → own_turn S k cpu ≡ Some (ec, sc) →
-    IsAtWork (HasSameClock k l ec) k ec → IsSide (after k cpu) (Of S) (Of P)
+    IsAtWork (HasSameClock k l ec) (AreGivingWithin k l (Of S) ec) (AreRevokingWithin k l (Of S)) k ec → IsSide (after k cpu) (Of S) (Of P)
 own_side k l S P cpu ec sc t own works =
     let its = own_is S k cpu ec sc own in
-    let b = both k l S P t in
     let p = own_there S k (Of P) cpu ec sc t.first t.side its in
     subst (λ (s : KernelState). IsSide s (Of S) (Of P)) (sym (own_turned S k cpu ec sc its))
-    (turned_side (HasSameClock k l ec) k (Of S) (Of P) t.side cpu ec sc p (deed k ec) (deed_own (HasSameClock k l ec) k l (Of S) (Of P) b ec p its.of works) (is_stirred k ec (deed k ec)))
+    (own_turned_side (HasSameClock k l ec) k (Of S) (Of P) t.side t.first.forest cpu ec sc p (deed k ec)
+    (first_own (HasSameClock k l ec) k l (Of S) (Of P) (deed k ec) (deed l ec) (own_of k l S P cpu ec sc t own works)) (is_stirred k ec (deed k ec)))
 
 -- ALONG TURNS
 
--- of a down with a deadline something else may be asked
-pub work_as : (timed other : Type 0) (k : KernelState) (ec : ℕ) → (timed → other) → IsAtWork timed k ec → IsAtWork other k ec
-work_as timed other k ec f works = record { state = works.state; calls = λ asking. by_call (call_of (context k ec).regs) (works.calls asking) }
-  where
-    by_call : (o : Result Call Status) → IsCallAtWork timed o → IsCallAtWork other o
-    by_call (Ok (asks.SmCtrl sm (act.DownWithin ticks))) h = f h
-    by_call any h = h
+-- of a down with a deadline, where items are given, and of a revoke something else may be asked
+pub call_as : (timed other revoking taking : Type 0) (o : Result Call Status) → (timed → other) → (revoking → taking) → IsCallAtWork timed revoking o → IsCallAtWork other taking o
+call_as timed other revoking taking (Ok (asks.SmCtrl sm (act.DownWithin ticks))) f g h = f h
+call_as timed other revoking taking (Ok (asks.Revoke range own)) f g h = g h
+call_as timed other revoking taking any f g h = h
 
-pub working_timed : (timed : Type 0) (k : KernelState) (ec : ℕ) → IsAtWork ⊥ k ec → IsAtWork timed k ec
-working_timed timed k ec works = work_as ⊥ timed k ec (λ none. absurd none) works
+pub work_as : (timed other giving within revoking taking : Type 0) (k : KernelState) (ec : ℕ) → (timed → other) → (is_giving (context k ec).state ≡ true → giving → within) → (revoking → taking) →
+    IsAtWork timed giving revoking k ec → IsAtWork other within taking k ec
+work_as timed other giving within revoking taking k ec f g h works = record {
+  state = works.state;
+  calls = λ asking. call_as timed other revoking taking (call_of (context k ec).regs) f h (works.calls asking);
+  gives = λ is. g is (works.gives is);
+  revokes = λ is. h (works.revokes is);
+}
+
+-- with what both give and revoke within
+pub working_both : (giving revoking : Type 0) (k l : KernelState) (S P : ℕ → Bool) (ec : ℕ) → AreTwins k l S P → P ec ≡ true → S (pd_of k ec) ≡ true → IsAtWork ⊥ giving revoking k ec →
+    (is_giving (context k ec).state ≡ true → IsGivingWithin k (Of S) ec) → (is_giving (context l ec).state ≡ true → IsGivingWithin l (Of S) ec) → (revoking → AreRevokingWithin k l (Of S)) →
+    IsAtWork (HasSameClock k l ec) (AreGivingWithin k l (Of S) ec) (AreRevokingWithin k l (Of S)) k ec
+working_both giving revoking k l S P ec t p s works mine its takes =
+    work_as ⊥ (HasSameClock k l ec) giving (AreGivingWithin k l (Of S) ec) revoking (AreRevokingWithin k l (Of S)) k ec (λ none. absurd none)
+    (λ is asked. record { first = mine is; second = its (ap (λ (x : EcState). is_giving x.state) (context_same k l (Of S) (Of P) (both k l S P t) ec p s) ∙ is) }) takes works
+
+-- its ranges are made of each other alike after its turn
+pub own_derived : (k l : KernelState) (S P : ℕ → Bool) (cpu other ec sc : ℕ) → AreTwins k l S P → own_turn S k cpu ≡ Some (ec, sc) → own_turn S l other ≡ Some (ec, sc) →
+    IsAtWork (HasSameClock k l ec) (AreGivingWithin k l (Of S) ec) (AreRevokingWithin k l (Of S)) k ec → AreDerivedAlike k l (Of S) → AreDerivedAlike (after k cpu) (after l other) (Of S)
+own_derived k l S P cpu other ec sc t own also works a =
+    pair_derived (HasSameClock k l ec) k l (after k cpu) (after l other) (Of S) (Of P) t.first.forest t.second.forest (turn_sound k cpu t.first).forest (turn_sound l other t.second).forest ec (deed k ec) (deed l ec)
+    (own_of k l S P cpu ec sc t own works) (ap (λ (s : KernelState). s.delegations) (own_turned S k cpu ec sc (own_is S k cpu ec sc own)))
+    (ap (λ (s : KernelState). s.delegations) (own_turned S l other ec sc (own_is S l other ec sc also))) a
+
+-- and after a turn that leaves the side's part alone, in the first of two states, and in the second
+pub left_derived : (k l : KernelState) (S P : ℕ → Bool) (cpu : ℕ) → IsSound k → AreAlike k (after k cpu) (Of S) (Of P) → AreDerivedAlike k l (Of S) → AreDerivedAlike (after k cpu) l (Of S)
+left_derived k l S P cpu sound same a = derived_kept k l (after k cpu) l (Of S) (left_gains k (Of S) (Of P) cpu sound same) (λ d there s. there) a
+
+pub derived_left : (k l : KernelState) (S P : ℕ → Bool) (cpu : ℕ) → IsSound l → AreAlike l (after l cpu) (Of S) (Of P) → AreDerivedAlike k l (Of S) → AreDerivedAlike k (after l cpu) (Of S)
+derived_left k l S P cpu sound same a = derived_kept k l k (after l cpu) (Of S) (λ d there s. there) (left_gains l (Of S) (Of P) cpu sound same) a
 
 abbrev pub OwnDeed : Type 0
 OwnDeed = ℕ × Deed
@@ -216,13 +250,13 @@ pub record EndSame (k l : KernelState) (S P : ℕ → Bool) (es fs : List OwnDee
   pub bytes : cs ≡ bs
 
 abbrev pub deed_for : KernelState → Option (ℕ × ℕ) → Option OwnDeed
-deed_for k o = option_map (λ (p : ℕ × ℕ). (p.0, deed k p.0)) o
+deed_for k o = option_map (λ (p : ℕ × ℕ). (p.0, unnumbered (deed k p.0))) o
 
 -- the second goes on by others' turns alone
-others_alone : (S P : ℕ → Bool) (us : List ℕ) (k l : KernelState) → AreTwins k l S P → AreLeftAlone S P l us → [] ≡ schedule S l us → EndSame k (run l us) S P [] (own_deeds S l us) [] (own_bytes S l us)
-others_alone S P [] k l t left same = record { alike = t.alike; deeds = refl; bytes = refl }
-others_alone S P (cpu ∷ us) k l t left same =
-    by_own (own_turn S l cpu) refl same (λ next rest. others_alone S P us k (after l cpu) next left.1 rest)
+others_alone : (revokes : Bool) (S P : ℕ → Bool) (us : List ℕ) (k l : KernelState) → AreTwins k l S P → AreLeftAlone revokes S P l us → [] ≡ schedule S l us → EndSame k (run l us) S P [] (own_deeds S l us) [] (own_bytes S l us)
+others_alone revokes S P [] k l t left same = record { alike = t.alike; deeds = refl; bytes = refl }
+others_alone revokes S P (cpu ∷ us) k l t left same =
+    by_own (own_turn S l cpu) refl same (λ next rest. others_alone revokes S P us k (after l cpu) next left.3 rest)
   where
     by_own : (o : Option (ℕ × ℕ)) → own_turn S l cpu ≡ o → [] ≡ in_front o (schedule S (after l cpu) us) →
         (AreTwins k (after l cpu) S P → [] ≡ schedule S (after l cpu) us → EndSame k (run (after l cpu) us) S P [] (own_deeds S (after l cpu) us) [] (own_bytes S (after l cpu) us)) →
@@ -236,63 +270,68 @@ abbrev pub Ends : KernelState → List ℕ → KernelState → List ℕ → (ℕ
 Ends k ts l us S P = EndSame (run k ts) (run l us) S P (own_deeds S k ts) (own_deeds S l us) (own_bytes S k ts) (own_bytes S l us)
 
 -- the second goes on until its next own turn, which is as the first's
-matched : (S P : ℕ → Bool) (us : List ℕ) (k l : KernelState) (cpu : ℕ) (ts : List ℕ) (p : ℕ × ℕ) → own_turn S k cpu ≡ Some p → IsAtWork ⊥ k p.0 → AreTwins k l S P → AreLeftAlone S P l us →
-    p ∷ schedule S (after k cpu) ts ≡ schedule S l us →
-    ((vs : List ℕ) (m : KernelState) → AreTwins (after k cpu) m S P → AreLeftAlone S P m vs → schedule S (after k cpu) ts ≡ schedule S m vs → Ends (after k cpu) ts m vs S P) →
-    EndSame (run (after k cpu) ts) (run l us) S P ((p.0, deed k p.0) ∷ own_deeds S (after k cpu) ts) (own_deeds S l us) (gain_for k cpu (Some p) ++ own_bytes S (after k cpu) ts) (own_bytes S l us)
-matched S P [] k l cpu ts p own works t left same later = absurd (cc)
-matched S P (other ∷ us) k l cpu ts p own works t left same later =
-    by_own (own_turn S l other) refl same (λ next rest. matched S P us k (after l other) cpu ts p own works next left.1 rest later)
+matched : (revokes : Bool) (S P : ℕ → Bool) (us : List ℕ) (k l : KernelState) (cpu : ℕ) (ts : List ℕ) (p : ℕ × ℕ) → own_turn S k cpu ≡ Some p → IsAtWork ⊥ (RevokesNothing k (Of S)) (revokes ≡ true) k p.0 → GivesWithin S k cpu →
+    (revokes ≡ true → DerivesWithin k (Of S)) → (revokes ≡ true → AreDerivedAlike k l (Of S)) → AreTwins k l S P → AreLeftAlone revokes S P l us → p ∷ schedule S (after k cpu) ts ≡ schedule S l us →
+    ((vs : List ℕ) (m : KernelState) → (revokes ≡ true → AreDerivedAlike (after k cpu) m (Of S)) → AreTwins (after k cpu) m S P → AreLeftAlone revokes S P m vs → schedule S (after k cpu) ts ≡ schedule S m vs → Ends (after k cpu) ts m vs S P) →
+    EndSame (run (after k cpu) ts) (run l us) S P ((p.0, unnumbered (deed k p.0)) ∷ own_deeds S (after k cpu) ts) (own_deeds S l us) (gain_for k cpu (Some p) ++ own_bytes S (after k cpu) ts) (own_bytes S l us)
+matched revokes S P [] k l cpu ts p own works within derives derived t left same later = absurd (cc)
+matched revokes S P (other ∷ us) k l cpu ts p own works within derives derived t left same later =
+    by_own (own_turn S l other) refl same (λ alike next rest. matched revokes S P us k (after l other) cpu ts p own works within derives alike next left.3 rest later)
   where
-    timed : IsAtWork (HasSameClock k l p.0) k p.0
-    timed = working_timed (HasSameClock k l p.0) k p.0 works
+    timed : own_turn S l other ≡ Some p → IsAtWork (HasSameClock k l p.0) (AreGivingWithin k l (Of S) p.0) (AreRevokingWithin k l (Of S)) k p.0
+    timed also =
+        let its = own_is S k cpu p.0 p.1 own in
+        working_both (RevokesNothing k (Of S)) (revokes ≡ true) k l S P p.0 t (own_there S k (Of P) cpu p.0 p.1 t.first t.side its) its.of works (within p.0 p.1 own) (left.1 p.0 p.1 also)
+        (λ yes. record { alike = derived yes; first = derives yes; second = left.2 yes })
 
     by_own : (o : Option (ℕ × ℕ)) → own_turn S l other ≡ o → p ∷ schedule S (after k cpu) ts ≡ in_front o (schedule S (after l other) us) →
-        (AreTwins k (after l other) S P → p ∷ schedule S (after k cpu) ts ≡ schedule S (after l other) us →
-        EndSame (run (after k cpu) ts) (run (after l other) us) S P ((p.0, deed k p.0) ∷ own_deeds S (after k cpu) ts) (own_deeds S (after l other) us) (gain_for k cpu (Some p) ++ own_bytes S (after k cpu) ts) (own_bytes S (after l other) us)) →
-        EndSame (run (after k cpu) ts) (run (after l other) us) S P ((p.0, deed k p.0) ∷ own_deeds S (after k cpu) ts)
+        ((revokes ≡ true → AreDerivedAlike k (after l other) (Of S)) → AreTwins k (after l other) S P → p ∷ schedule S (after k cpu) ts ≡ schedule S (after l other) us →
+        EndSame (run (after k cpu) ts) (run (after l other) us) S P ((p.0, unnumbered (deed k p.0)) ∷ own_deeds S (after k cpu) ts) (own_deeds S (after l other) us) (gain_for k cpu (Some p) ++ own_bytes S (after k cpu) ts) (own_bytes S (after l other) us)) →
+        EndSame (run (after k cpu) ts) (run (after l other) us) S P ((p.0, unnumbered (deed k p.0)) ∷ own_deeds S (after k cpu) ts)
         (in_front (deed_for l (own_turn S l other)) (own_deeds S (after l other) us)) (gain_for k cpu (Some p) ++ own_bytes S (after k cpu) ts) (gain_for l other (own_turn S l other) ++ own_bytes S (after l other) us)
     by_own None is rest goes_on =
-        let ended = goes_on (record { side = t.side; alike = alike_through k l (after l other) (Of S) (Of P) t.alike (left.0 is).same; first = t.first; second = turn_sound l other t.second }) rest in
+        let alone = (left.0 is).same in
+        let ended = goes_on (λ yes. derived_left k l S P other t.second alone (derived yes)) (record { side = t.side; alike = alike_through k l (after l other) (Of S) (Of P) t.alike alone; first = t.first; second = turn_sound l other t.second }) rest in
         record { alike = ended.alike; deeds = ap (λ (o : Option (ℕ × ℕ)). in_front (deed_for l o) (own_deeds S (after l other) us)) is ∙ ended.deeds; bytes = ap (λ (o : Option (ℕ × ℕ)). gain_for l other o ++ own_bytes S (after l other) us) is ∙ ended.bytes }
     by_own (Some q) is rest goes_on =
         let first : p ≡ q = cc in
         let tails : schedule S (after k cpu) ts ≡ schedule S (after l other) us = cc in
         let also : own_turn S l other ≡ Some p = is ∙ ap (λ (r : ℕ × ℕ). Some r) (sym first) in
-        let ended = later us (after l other) (record {
-          side = own_side k l S P cpu p.0 p.1 t own timed;
-          alike = own_alike k l S P cpu other p.0 p.1 t own also timed;
+        let ended = later us (after l other) (λ yes. own_derived k l S P cpu other p.0 p.1 t own also (timed also) (derived yes)) (record {
+          side = own_side k l S P cpu p.0 p.1 t own (timed also);
+          alike = own_alike k l S P cpu other p.0 p.1 t own also (timed also);
           first = turn_sound k cpu t.first;
           second = turn_sound l other t.second;
-        }) left.1 tails in
+        }) left.3 tails in
         record {
           alike = ended.alike;
           deeds =
               ap (λ (o : Option (ℕ × ℕ)). in_front (deed_for l o) (own_deeds S (after l other) us)) also
-              ∙ ap₂ (λ (d : Deed) (es : List OwnDeed). (p.0, d) ∷ es) (decided k l S P cpu p.0 p.1 t own timed) ended.deeds;
+              ∙ ap₂ (λ (d : Deed) (es : List OwnDeed). (p.0, d) ∷ es) (decided k l S P cpu p.0 p.1 t own (timed also)) ended.deeds;
           bytes =
               ap (λ (o : Option (ℕ × ℕ)). gain_for l other o ++ own_bytes S (after l other) us) also
-              ∙ ap₂ (λ (xs ys : List LogByte). xs ++ ys) (own_gains k l S P cpu other p.0 p.1 t own also timed) ended.bytes;
+              ∙ ap₂ (λ (xs ys : List LogByte). xs ++ ys) (own_gains k l S P cpu other p.0 p.1 t own also (timed also)) ended.bytes;
         }
 
-pub runs_alike : (S P : ℕ → Bool) (ts us : List ℕ) (k l : KernelState) → AreTwins k l S P → AreLeftAlone S P k ts → AreLeftAlone S P l us → AreAtWorkTimeless S k ts → schedule S k ts ≡ schedule S l us →
-    Ends k ts l us S P
-runs_alike S P [] us k l t left right works same = others_alone S P us k l t right same
-runs_alike S P (cpu ∷ ts) us k l t left right works same =
-    by_own (own_turn S k cpu) refl same (λ j vs m next alone also works_ again. runs_alike S P ts vs j m next alone also works_ again)
+pub runs_alike : (revokes : Bool) (S P : ℕ → Bool) (ts us : List ℕ) (k l : KernelState) → (revokes ≡ true → AreDerivedAlike k l (Of S)) → AreTwins k l S P → AreLeftAlone revokes S P k ts → AreLeftAlone revokes S P l us →
+    AreAtWorkTimeless revokes S k ts → schedule S k ts ≡ schedule S l us → Ends k ts l us S P
+runs_alike revokes S P [] us k l derived t left right works same = others_alone revokes S P us k l t right same
+runs_alike revokes S P (cpu ∷ ts) us k l derived t left right works same =
+    by_own (own_turn S k cpu) refl same (λ j vs m alike next alone also works_ again. runs_alike revokes S P ts vs j m alike next alone also works_ again)
   where
     by_own : (o : Option (ℕ × ℕ)) → own_turn S k cpu ≡ o → in_front o (schedule S (after k cpu) ts) ≡ schedule S l us →
-        ((j : KernelState) (vs : List ℕ) (m : KernelState) → AreTwins j m S P → AreLeftAlone S P j ts → AreLeftAlone S P m vs → AreAtWorkTimeless S j ts → schedule S j ts ≡ schedule S m vs → Ends j ts m vs S P) →
+        ((j : KernelState) (vs : List ℕ) (m : KernelState) → (revokes ≡ true → AreDerivedAlike j m (Of S)) → AreTwins j m S P → AreLeftAlone revokes S P j ts → AreLeftAlone revokes S P m vs → AreAtWorkTimeless revokes S j ts →
+        schedule S j ts ≡ schedule S m vs → Ends j ts m vs S P) →
         EndSame (run (after k cpu) ts) (run l us) S P (in_front (deed_for k (own_turn S k cpu)) (own_deeds S (after k cpu) ts)) (own_deeds S l us) (gain_for k cpu (own_turn S k cpu) ++ own_bytes S (after k cpu) ts) (own_bytes S l us)
     by_own None is rest later =
         let alone = left.0 is in
-        let ended = later (after k cpu) us l (record {
+        let ended = later (after k cpu) us l (λ yes. left_derived k l S P cpu t.first alone.same (derived yes)) (record {
           side = alone.side;
           alike = alike_through (after k cpu) k l (Of S) (Of P) (alike_flipped k (after k cpu) (Of S) (Of P) alone.same) t.alike;
           first = turn_sound k cpu t.first;
           second = t.second;
-        }) left.1 right works.1 rest in
+        }) left.3 right works.1 rest in
         record { alike = ended.alike; deeds = ended.deeds ∙ sym (ap (λ (o : Option (ℕ × ℕ)). in_front (deed_for k o) (own_deeds S (after k cpu) ts)) is); bytes = ended.bytes ∙ sym (ap (λ (o : Option (ℕ × ℕ)). gain_for k cpu o ++ own_bytes S (after k cpu) ts) is) }
     by_own (Some p) is rest later =
-        let ended = matched S P us k l cpu ts p is (works.0 p.0 p.1 is) t right rest (λ vs m next alone also. later (after k cpu) vs m next left.1 alone works.1 also) in
+        let ended = matched revokes S P us k l cpu ts p is (works.0 p.0 p.1 is) left.1 left.2 derived t right rest (λ vs m alike next alone also. later (after k cpu) vs m alike next left.3 alone works.1 also) in
         record { alike = ended.alike; deeds = ended.deeds ∙ sym (ap (λ (o : Option (ℕ × ℕ)). in_front (deed_for k o) (own_deeds S (after k cpu) ts)) is); bytes = ended.bytes ∙ sym (ap (λ (o : Option (ℕ × ℕ)). gain_for k cpu o ++ own_bytes S (after k cpu) ts) is) }

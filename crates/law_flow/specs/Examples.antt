@@ -3,8 +3,9 @@ use Rattle.std.specs.Prelude.{ℕ, ◌==◌, ◌||◌, Bool, [], ◌∷◌}
 use Rattle.nova_model.specs.Boot.{Scenario}
 use Rattle.law_integrity.specs.Examples.{bytes_of}
 
--- On two processors, with 4 pages, the root makes two monitors, protection domains 3 and 4, gives page 1 to the one and page 2 to the other, and makes a handler in each, the local threads 5 and 6, with portals 7 and 8
--- to them. It makes two guests, domains 9 and 10, gives each the portal of its monitor, with the right to send exits, and makes a virtual CPU in each, 11 and 12, with scheduling contexts 13 and 14. Handler 6 and guest 12
+-- On two processors, with 4 pages, the root makes two monitors, protection domains 3 and 4, gives page 1 to the first and page 2 to the second, and
+-- makes a handler in each, the local threads 5 and 6, with portals 7 and 8 to them. It makes two guests, domains 9 and 10, gives each the portal of
+-- its monitor, with the right to send exits, and makes a virtual CPU in each, 11 and 12, with scheduling contexts 13 and 14. Handler 6 and guest 12
 -- are on processor 1. Then it dies, all in 65 turns.
 abbrev pub two_homes : Scenario
 two_homes = record {

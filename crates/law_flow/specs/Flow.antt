@@ -1,6 +1,6 @@
 -- Noninterference of a side: which part of a state is the side's, two states in which that part is the same, whatever the rest is, and what keeps others out of it.
 -- `S` says which protection domains are the side's, by number, and `P` which objects its part has; `T` says which domains are the others'. What they hold and reach, and when they are apart, is as in integrity.
-use Rattle.std.specs.Prelude.{◌≡◌, ℕ, Contains, Bool, IsSome, true, false, List, [], ◌∷◌, ◌++◌, drop, length, map, slice_get, Option, Some, None, option_and_then, option_map, Result, Ok}
+use Rattle.std.specs.Prelude.{◌≡◌, ℕ, Contains, Bool, IsSome, nat_lt, true, false, List, [], ◌∷◌, ◌++◌, drop, length, map, slice_get, Option, Some, None, option_and_then, option_map, Result, Ok}
 use Rattle.std.specs.List.{find}
 use Rattle.nova_calls.specs.Hypercalls.{call_of}
 use Rattle.nova_calls.specs.declared.call.Call.{Call}
@@ -17,20 +17,22 @@ use Rattle.nova_range.specs.declared.rights.Rights.{Rights}
 use Rattle.nova_range.specs.declared.status.Status.{Status}
 use Rattle.nova_model.specs.Choice.{Candidate, in_front, next_to_act}
 use Rattle.nova_model.specs.Deeds.{deed}
-use Rattle.nova_model.specs.Delegations.{covers, range_of, reach}
-use Rattle.nova_model.specs.Edges.{caller_in, edge, state_in}
+use Rattle.nova_model.specs.Delegations.{covers, is_child_of, range_of, reach}
+use Rattle.nova_model.specs.Edges.{caller_in, edge, is_giving, state_in}
 use Rattle.nova_model.specs.Lines.{line}
 use Rattle.nova_model.specs.Runs.{after, run}
 use Rattle.nova_model.specs.Semaphores.{waits}
+use Rattle.nova_model.specs.Translations.{nearest}
 use Rattle.nova_model.specs.State.{Contexts, KernelState, budget_at, context, deadline_of, pd_of, processor_of}
 use Rattle.nova_model.specs.Times.{clock}
 use Rattle.nova_model.specs.declared.budget.Budget.{Budget}
 use Rattle.nova_model.specs.declared.context.EcState.{EcState}
 use Rattle.nova_model.specs.declared.context.Mark.{Mark}
 use Rattle.nova_model.specs.declared.context.State.{State}
-use Rattle.nova_model.specs.declared.context.State.TheVariants.{Blocked, Granting, Replying, Revoking}
+use Rattle.nova_model.specs.declared.context.State.TheVariants.{Blocked, Granting, Revoking}
 use Rattle.nova_model.specs.declared.delegation.Derivation.{Derivation}
 use Rattle.nova_model.specs.declared.deed.Deed.{Deed}
+use Rattle.nova_model.specs.declared.deed.Deed.TheVariants.{Gives, Removes}
 use Rattle.nova_model.specs.declared.log.LogByte.{LogByte}
 use Rattle.nova_model.specs.declared.times.AlarmState.{AlarmState}
 use Rattle.law_integrity.specs.Confined.{AreSetsApart, HoldsAny, IsOwned, Of, Reach}
@@ -61,6 +63,13 @@ held_by d = record { range = range_of d; rights = d.rights; target = d.target }
 abbrev pub held_at : KernelState → Kind → ℕ → ℕ → Option Held
 held_at k kind pd place = option_map held_by (find (covers kind pd place) k.delegations.list)
 
+-- What of a domain's a range comes of: the nearest of its line that lies there, which a translation tells. What of others lies between is not in it.
+abbrev pub origin_of : List Derivation → ℕ → Option Derivation → Option Held
+origin_of list from o = option_map held_by (option_and_then (λ d. nearest list d from) o)
+
+abbrev pub origin_at : KernelState → Kind → ℕ → ℕ → ℕ → Option Held
+origin_at k kind pd place from = origin_of k.delegations.list from (find (covers kind pd place) k.delegations.list)
+
 -- how many turns a scheduling context has paid for
 abbrev pub ticks_at : KernelState → ℕ → Option ℕ
 ticks_at k sc = option_map (λ (b : Budget). b.ticks) (budget_at k sc)
@@ -78,7 +87,7 @@ abbrev pub fronts : Contexts → List (Option Front)
 fronts contexts = map (option_map front_of) contexts
 
 -- In two states the side's part is the same: its objects, under the same numbers, with identifiers of portals, semaphores with their queues, ticks and deadlines; of the execution contexts of its
--- domains registers, states, callers and recalls, message words and places in items, and of those of other domains, which serve it, the fronts alone; what its domains hold at each place; and the bytes
+-- domains registers, states, callers and recalls, message words and places in items, and of those of other domains, which serve it, the fronts alone; what its domains hold at each place, and of what of theirs it comes; and the bytes
 -- of each frame to which a page of one of them leads. Of the rest only the number of RAM frames is.
 pub record AreAlike (k l : KernelState) (S P : ℕ → Type 0) : Type 0 where
   pub objects : (n : ℕ) → P n → slice_get l.objects n ≡ slice_get k.objects n
@@ -91,37 +100,85 @@ pub record AreAlike (k l : KernelState) (S P : ℕ → Type 0) : Type 0 where
   pub ticks : (n : ℕ) → P n → ticks_at l n ≡ ticks_at k n
   pub deadlines : (n : ℕ) → P n → slice_get l.times.deadlines n ≡ slice_get k.times.deadlines n
   pub spaces : (kind : Kind) (pd place : ℕ) → S pd → held_at l kind pd place ≡ held_at k kind pd place
+  pub origins : (kind : Kind) (pd place from : ℕ) → S pd → S from → origin_at l kind pd place from ≡ origin_at k kind pd place from
   pub frames : (pd page : ℕ) (to : Page) → S pd → reach k.delegations.list pd page ≡ Some to → slice_get l.memory.ram to.frame ≡ slice_get k.memory.ram to.frame
   pub size : length l.memory.ram ≡ length k.memory.ram
 
 -- A SIDE AT WORK
 
--- no items, no first range and no revoke are under way
+-- no first range is under way
 abbrev pub is_at_work : State → Bool
-is_at_work (Granting new) = false
-is_at_work Replying = false
-is_at_work (Revoking range own) = false
+is_at_work (Granting (Some new)) = false
 is_at_work other = true
 
--- the call makes no object and revokes nothing; of a down with a deadline this is asked
-abbrev pub IsCallAtWork : Type 0 → Result Call Status → Type 0
-IsCallAtWork timed (Ok (CreatePd target pd first)) = ⊥
-IsCallAtWork timed (Ok (CreateEc target pd cpu kind sp event)) = ⊥
-IsCallAtWork timed (Ok (CreateSc target pd whose quantum priority)) = ⊥
-IsCallAtWork timed (Ok (CreatePt target pd handler mtd ip)) = ⊥
-IsCallAtWork timed (Ok (CreateSm target pd count)) = ⊥
-IsCallAtWork timed (Ok (Revoke range own)) = ⊥
-IsCallAtWork timed (Ok (SmCtrl sm (DownWithin ticks))) = timed
-IsCallAtWork timed other = Unit {0}
+-- a revoke is under way
+abbrev pub is_revoking : State → Bool
+is_revoking (Revoking range own) = true
+is_revoking other = false
 
--- its turn gives nothing and revokes nothing, and if it makes a hypercall, this is such a one
-pub record IsAtWork (timed : Type 0) (k : KernelState) (ec : ℕ) : Type 0 where
+-- the call makes no object; of a down with a deadline the first is asked, and of a revoke the second
+abbrev pub IsCallAtWork : Type 0 → Type 0 → Result Call Status → Type 0
+IsCallAtWork timed revoking (Ok (CreatePd target pd first)) = ⊥
+IsCallAtWork timed revoking (Ok (CreateEc target pd cpu kind sp event)) = ⊥
+IsCallAtWork timed revoking (Ok (CreateSc target pd whose quantum priority)) = ⊥
+IsCallAtWork timed revoking (Ok (CreatePt target pd handler mtd ip)) = ⊥
+IsCallAtWork timed revoking (Ok (CreateSm target pd count)) = ⊥
+IsCallAtWork timed revoking (Ok (Revoke range own)) = revoking
+IsCallAtWork timed revoking (Ok (SmCtrl sm (DownWithin ticks))) = timed
+IsCallAtWork timed revoking other = Unit {0}
+
+-- Its turn makes nothing, and if it makes a hypercall, this is such a one. Of one that gives items, and of one that revokes, something else is asked, too.
+pub record IsAtWork (timed giving revoking : Type 0) (k : KernelState) (ec : ℕ) : Type 0 where
   pub state : is_at_work (context k ec).state ≡ true
-  pub calls : IsAsking k ec → IsCallAtWork timed (call_of (context k ec).regs)
+  pub calls : IsAsking k ec → IsCallAtWork timed revoking (call_of (context k ec).regs)
+  pub gives : is_giving (context k ec).state ≡ true → giving
+  pub revokes : is_revoking (context k ec).state ≡ true → revoking
 
 -- the clock of its processor is the same in both
 abbrev pub HasSameClock : KernelState → KernelState → ℕ → Type 0
 HasSameClock k l ec = clock l.times (processor_of k ec) ≡ clock k.times (processor_of k ec)
+
+-- no execution context of the side's is amid a revoke, and none is that revokes what something of the side's was derived from
+abbrev pub RevokesNothing : KernelState → (ℕ → Type 0) → Type 0
+RevokesNothing k S = (n : ℕ) (range : Range) (own : Bool) → (context k n).state ≡ Revoking range own → S (pd_of k n) → ⊥
+
+pub record IsUnrevoked (k : KernelState) (S : ℕ → Type 0) : Type 0 where
+  pub own : RevokesNothing k S
+  pub lines : (n : ℕ) (range : Range) (own : Bool) (d ancestor : Derivation) → (context k n).state ≡ Revoking range own → Contains k.delegations.list d → S d.pd →
+      Contains (line k.delegations.list d) ancestor → ancestor.pd ≡ pd_of k n → ⊥
+
+-- Items are given within the side, where no revoke is in the way: the caller of the one who gives, to or from whom they are given, is of a domain of the side's, too.
+pub record IsGivingWithin (k : KernelState) (S : ℕ → Type 0) (ec : ℕ) : Type 0 where
+  pub caller : (n : ℕ) (mark : Mark) → (context k ec).caller ≡ Some (n, mark) → S (pd_of k n)
+  pub unrevoked : IsUnrevoked k S
+
+-- in both states
+pub record AreGivingWithin (k l : KernelState) (S : ℕ → Type 0) (ec : ℕ) : Type 0 where
+  pub first : IsGivingWithin k S ec
+  pub second : IsGivingWithin l S ec
+
+-- the same range of a domain of the side's in two states, under whatever numbers and of whatever parents
+pub record IsSameRange (k l : KernelState) (S : ℕ → Type 0) (d e : Derivation) : Type 0 where
+  pub of : S d.pd
+  pub first : Contains k.delegations.list d
+  pub second : Contains l.delegations.list e
+  pub pd : e.pd ≡ d.pd
+  pub held : held_by e ≡ held_by d
+
+-- In two states the side's ranges are made of each other alike, and in the same order: a revoke takes away the newest child of the newest child and so on, first.
+pub record AreDerivedAlike (k l : KernelState) (S : ℕ → Type 0) : Type 0 where
+  pub children : (c d e f : Derivation) → IsSameRange k l S c e → IsSameRange k l S d f → is_child_of f.id e ≡ is_child_of d.id c
+  pub order : (c d e f : Derivation) → IsSameRange k l S c e → IsSameRange k l S d f → nat_lt e.id f.id ≡ nat_lt c.id d.id
+
+-- nothing that others hold is made of what a domain of the side's holds
+abbrev pub DerivesWithin : KernelState → (ℕ → Type 0) → Type 0
+DerivesWithin k S = (d ancestor : Derivation) → Contains k.delegations.list d → Contains (line k.delegations.list d) ancestor → S ancestor.pd → S d.pd
+
+-- what is asked of two states where the side revokes
+pub record AreRevokingWithin (k l : KernelState) (S : ℕ → Type 0) : Type 0 where
+  pub alike : AreDerivedAlike k l S
+  pub first : DerivesWithin k S
+  pub second : DerivesWithin l S
 
 -- ALONG TURNS
 
@@ -138,9 +195,15 @@ abbrev pub schedule : (ℕ → Bool) → KernelState → List ℕ → List (ℕ 
 schedule S k [] = []
 schedule S k (cpu ∷ turns) = in_front (own_turn S k cpu) (schedule S (after k cpu) turns)
 
--- what is done in them, and by whom
+-- a deed but for the numbers of a range that is given or taken away and of its parent, which tell of the turns of others
+abbrev pub unnumbered : Deed → Deed
+unnumbered (Gives child cursor) = Gives (record child { id = 0; parent = None }) cursor
+unnumbered (Removes leaf) = Removes (record leaf { id = 0; parent = None })
+unnumbered other = other
+
+-- what is done in them, and by whom, but for numbers of ranges
 abbrev pub own_deed : (ℕ → Bool) → KernelState → ℕ → Option (ℕ × Deed)
-own_deed S k cpu = option_map (λ (p : ℕ × ℕ). (p.0, deed k p.0)) (own_turn S k cpu)
+own_deed S k cpu = option_map (λ (p : ℕ × ℕ). (p.0, unnumbered (deed k p.0))) (own_turn S k cpu)
 
 abbrev pub own_deeds : (ℕ → Bool) → KernelState → List ℕ → List (ℕ × Deed)
 own_deeds S k [] = []
@@ -155,23 +218,28 @@ abbrev pub own_bytes : (ℕ → Bool) → KernelState → List ℕ → List LogB
 own_bytes S k [] = []
 own_bytes S k (cpu ∷ turns) = gain_for k cpu (own_turn S k cpu) ++ own_bytes S (after k cpu) turns
 
--- A turn of others leaves the side's part, and what is of the side is so still. So of each of these turns that is none of the side's.
+-- A turn of others leaves the side's part, and what is of the side is so still. So of each of these turns that is none of the side's, and where the side gives items, it does so within.
 pub record IsLeftAlone (k : KernelState) (S P : ℕ → Type 0) (cpu : ℕ) : Type 0 where
   pub same : AreAlike k (after k cpu) S P
   pub side : IsSide (after k cpu) S P
 
-abbrev pub AreLeftAlone : (ℕ → Bool) → (ℕ → Bool) → KernelState → List ℕ → Type 0
-AreLeftAlone S P k [] = Unit {0}
-AreLeftAlone S P k (cpu ∷ turns) = (own_turn S k cpu ≡ None → IsLeftAlone k (Of S) (Of P) cpu) × AreLeftAlone S P (after k cpu) turns
+abbrev pub GivesWithin : (ℕ → Bool) → KernelState → ℕ → Type 0
+GivesWithin S k cpu = (ec sc : ℕ) → own_turn S k cpu ≡ Some (ec, sc) → is_giving (context k ec).state ≡ true → IsGivingWithin k (Of S) ec
 
--- in each of the side's turns it is at work, with deadlines or without; or without
-abbrev pub AreAtWork : (ℕ → Bool) → KernelState → List ℕ → Type 0
-AreAtWork S k [] = Unit {0}
-AreAtWork S k (cpu ∷ turns) = ((ec sc : ℕ) → own_turn S k cpu ≡ Some (ec, sc) → IsAtWork (Unit {0}) k ec) × AreAtWork S (after k cpu) turns
+-- where the side may revoke, nothing that others hold is made of what it holds
+abbrev pub AreLeftAlone : Bool → (ℕ → Bool) → (ℕ → Bool) → KernelState → List ℕ → Type 0
+AreLeftAlone revokes S P k [] = Unit {0}
+AreLeftAlone revokes S P k (cpu ∷ turns) =
+    (own_turn S k cpu ≡ None → IsLeftAlone k (Of S) (Of P) cpu) × GivesWithin S k cpu × (revokes ≡ true → DerivesWithin k (Of S)) × AreLeftAlone revokes S P (after k cpu) turns
 
-abbrev pub AreAtWorkTimeless : (ℕ → Bool) → KernelState → List ℕ → Type 0
-AreAtWorkTimeless S k [] = Unit {0}
-AreAtWorkTimeless S k (cpu ∷ turns) = ((ec sc : ℕ) → own_turn S k cpu ≡ Some (ec, sc) → IsAtWork ⊥ k ec) × AreAtWorkTimeless S (after k cpu) turns
+-- in each of the side's turns it is at work, with deadlines or without; or without. The first says whether it may revoke.
+abbrev pub AreAtWork : Bool → (ℕ → Bool) → KernelState → List ℕ → Type 0
+AreAtWork revokes S k [] = Unit {0}
+AreAtWork revokes S k (cpu ∷ turns) = ((ec sc : ℕ) → own_turn S k cpu ≡ Some (ec, sc) → IsAtWork (Unit {0}) (RevokesNothing k (Of S)) (revokes ≡ true) k ec) × AreAtWork revokes S (after k cpu) turns
+
+abbrev pub AreAtWorkTimeless : Bool → (ℕ → Bool) → KernelState → List ℕ → Type 0
+AreAtWorkTimeless revokes S k [] = Unit {0}
+AreAtWorkTimeless revokes S k (cpu ∷ turns) = ((ec sc : ℕ) → own_turn S k cpu ≡ Some (ec, sc) → IsAtWork ⊥ (RevokesNothing k (Of S)) (revokes ≡ true) k ec) × AreAtWorkTimeless revokes S (after k cpu) turns
 
 -- Two runs, of these turns from these states, come to the same part of the side's, by the same deeds and bytes of it.
 pub record AreAlikeAlong (k l : KernelState) (turns others : List ℕ) (S P : ℕ → Bool) : Type 0 where

@@ -1,6 +1,6 @@
 -- A side with processors of its own: nobody else runs there, and nothing else is to come there.
 -- `C` says which processors are the side's, `S` which domains and `P` which objects.
-use Rattle.std.specs.Prelude.{◌≡◌, ◌⊎◌, ℕ, Bool, true, false, List, [], ◌∷◌, IsSome, filter, nat_lt, slice_get, Option, Some, None, option_map}
+use Rattle.std.specs.Prelude.{◌≡◌, ◌⊎◌, ℕ, Bool, true, false, List, [], ◌∷◌, IsSome, filter, map, nat_lt, slice_get, Option, Some, None, option_map}
 use Rattle.nova_objects.specs.declared.object.EcKind.{EcKind}
 use Rattle.nova_objects.specs.declared.object.Object.TheVariants.{Ec, Sc}
 use Rattle.nova_model.specs.Edges.{state_in}
@@ -10,6 +10,8 @@ use Rattle.nova_model.specs.declared.budget.Budget.{Budget}
 use Rattle.nova_model.specs.declared.context.State.{State}
 use Rattle.nova_model.specs.declared.context.State.TheVariants.{Blocked, Dead, Parked}
 use Rattle.nova_model.specs.declared.event.Event.{Event}
+use Rattle.nova_model.specs.declared.event.EventKind.{EventKind}
+use Rattle.nova_model.specs.declared.event.EventKind.TheVariants.{Gone, Made}
 use Rattle.nova_model.specs.declared.times.AlarmState.{AlarmState}
 use Rattle.law_forest.specs.Made.{MayCreate}
 use Rattle.law_integrity.specs.Confined.{IsMember, Of}
@@ -73,9 +75,22 @@ pub record AreTimed (k l : KernelState) (P C : ℕ → Type 0) : Type 0 where
   pub left : (n : ℕ) → P n → left_at l n ≡ left_at k n
   pub order : (m n : ℕ) → P m → P n → IsSome (budget_at k m) → IsSome (budget_at k n) → nat_lt (stamp_at l m) (stamp_at l n) ≡ nat_lt (stamp_at k m) (stamp_at k n)
 
+-- an event but for numbers of ranges: of a range that is made or gone, and of the parent of one that is made
+abbrev pub number_told : EventKind → ℕ → ℕ
+number_told Made n = 0
+number_told Gone n = 0
+number_told other n = n
+
+abbrev pub parent_told : EventKind → ℕ → ℕ
+parent_told Made n = 0
+parent_told other n = n
+
+abbrev pub unnumbered_event : Event → Event
+unnumbered_event e = record e { a = number_told e.kind e.a; b = parent_told e.kind e.b }
+
 -- of a trace the events on these processors
 abbrev pub events_on : (ℕ → Bool) → List Event → List Event
-events_on C events = filter (λ (e : Event). C e.cpu) events
+events_on C events = map unnumbered_event (filter (λ (e : Event). C e.cpu) events)
 
 -- Two runs, of these turns from these states, come to the same part and the same times of the side's, by the same deeds and bytes of it, and the same events on its processors.
 pub record AreAlikeAtHome (k l : KernelState) (turns others : List ℕ) (S P C : ℕ → Bool) : Type 0 where

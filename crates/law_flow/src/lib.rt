@@ -1,10 +1,10 @@
 //! Noninterference: what a side of protection domains is, comes to and shows depends on its own part of the
 //! state and on its own turns alone, whatever the rest of the kernel is and does. By two laws on a turn, step
-//! consistency of the side's and local respect of all others, and by what follows over runs. The functions do
-//! nothing: their contracts are the laws.
+//! consistency of the side's and local respect of all others, and by what follows over runs. Deeds and events are the
+//! same but for numbers of ranges, which no program sees. The functions do nothing: their contracts are the laws.
 #![tactic(auto)]
 
-ghost use Rattle.std.specs.Prelude.{◌≡◌, ℕ, Bool, List, None, Some, filter, replicate};
+ghost use Rattle.std.specs.Prelude.{◌≡◌, ℕ, Bool, true, List, None, Some, filter, replicate};
 ghost use Rattle.nova_model.specs.Boot.{Scenario, boot};
 ghost use Rattle.nova_model.specs.Deeds.{deed};
 ghost use Rattle.nova_model.specs.Runs.{after, run};
@@ -12,25 +12,33 @@ ghost use Rattle.nova_model.specs.State.{KernelState};
 ghost use Rattle.law_isolation.specs.Sound.{IsSound};
 ghost use Rattle.law_integrity.specs.Confined.{Of};
 ghost use Rattle.law_flow.specs.Examples.{first_domains, first_objects, first_processors, other_domains, two_homes};
-ghost use Rattle.law_flow.specs.Flow.{AreAlike, AreAlikeAlong, AreAtWork, AreAtWorkTimeless, AreLeftAlone, HasSameClock, IsAtWork, IsLeftAlone, IsPartitioned, IsSide, IsTimeless, own_turn, schedule};
+ghost use Rattle.law_flow.specs.Flow.{AreAlike, AreAlikeAlong, AreAtWork, AreAtWorkTimeless, AreDerivedAlike, AreGivingWithin, AreLeftAlone, AreRevokingWithin, DerivesWithin, HasSameClock, IsAtWork, IsGivingWithin, IsLeftAlone, IsPartitioned, IsSide, IsTimeless, own_turn, schedule, unnumbered};
 ghost use Rattle.law_flow.specs.Processors.{AreAlikeAtHome, AreAtHome, AreTimed, IsDivided};
 
 /// Take two sound states in which a side's part is the same, and a turn of the same execution context of the side in
-/// both, paid by the same scheduling context, that asks for no create and no revoke, and sends no items. It does the
-/// same in both, and leaves states in which the side's part is the same again, whatever all the rest is: other objects,
+/// both, paid by the same scheduling context, that asks for no create. It does the same in both, but for numbers of
+/// ranges, and leaves states in which the side's part is the same again, whatever all the rest is: other objects,
 /// delegations, registers, states, queues, budgets, memory and clocks. Where it asks for a down with a deadline, the
-/// clock of its processor is the same in both.
+/// clock of its processor is the same in both. Where it gives items, it does so within the side, and in neither state a
+/// revoke is in the way. Where it revokes, in neither state anything that others hold was made of what it holds, and its
+/// ranges were made of each other alike and in one order: a revoke takes the newest first, by their numbers. They stay so.
 pub fn step_consistency()
     ensures decides { (k l : KernelState) (S P : ℕ → Bool) (cpu ec sc : ℕ) → IsSound k → IsSound l
         → IsSide k (Of S) (Of P) → AreAlike k l (Of S) (Of P)
-        → own_turn S k cpu ≡ Some (ec, sc) → IsAtWork (HasSameClock k l ec) k ec
-        → deed l ec ≡ deed k ec }
+        → own_turn S k cpu ≡ Some (ec, sc) → IsAtWork (HasSameClock k l ec) (AreGivingWithin k l (Of S) ec) (AreRevokingWithin k l (Of S)) k ec
+        → unnumbered (deed l ec) ≡ unnumbered (deed k ec) }
     ensures turn { (k l : KernelState) (S P : ℕ → Bool) (cpu other ec sc : ℕ) → IsSound k → IsSound l
         → IsSide k (Of S) (Of P) → AreAlike k l (Of S) (Of P)
-        → own_turn S k cpu ≡ Some (ec, sc) → own_turn S l other ≡ Some (ec, sc) → IsAtWork (HasSameClock k l ec) k ec
+        → own_turn S k cpu ≡ Some (ec, sc) → own_turn S l other ≡ Some (ec, sc)
+        → IsAtWork (HasSameClock k l ec) (AreGivingWithin k l (Of S) ec) (AreRevokingWithin k l (Of S)) k ec
         → AreAlike (after k cpu) (after l other) (Of S) (Of P) }
+    ensures lines { (k l : KernelState) (S P : ℕ → Bool) (cpu other ec sc : ℕ) → IsSound k → IsSound l
+        → IsSide k (Of S) (Of P) → AreAlike k l (Of S) (Of P)
+        → own_turn S k cpu ≡ Some (ec, sc) → own_turn S l other ≡ Some (ec, sc)
+        → IsAtWork (HasSameClock k l ec) (AreGivingWithin k l (Of S) ec) (AreRevokingWithin k l (Of S)) k ec
+        → AreDerivedAlike k l (Of S) → AreDerivedAlike (after k cpu) (after l other) (Of S) }
     ensures side { (k : KernelState) (S P : ℕ → Bool) (cpu ec sc : ℕ) → IsSound k
-        → IsSide k (Of S) (Of P) → own_turn S k cpu ≡ Some (ec, sc) → IsAtWork (HasSameClock k k ec) k ec
+        → IsSide k (Of S) (Of P) → own_turn S k cpu ≡ Some (ec, sc) → IsAtWork (HasSameClock k k ec) (IsGivingWithin k (Of S) ec) (DerivesWithin k (Of S)) k ec
         → IsSide (after k cpu) (Of S) (Of P) }
 {}
 
@@ -38,40 +46,46 @@ pub fn step_consistency()
 /// which the second writes to no frame that the first sees and is no ancestor of what the first holds; everybody else is
 /// idle for good, no alarm rings at the first's semaphores, and none of it has a deadline. A turn that is none of the
 /// first's leaves its part as it is, all of it: so each one does along turns in which the first is at work, whatever
-/// the others do.
+/// the others do; and what the first gives it gives within itself, with no revoke in the way. If it may revoke, and
+/// nothing that others hold was made of what it holds, it stays so.
 pub fn local_respect()
     ensures turn { (scenario : Scenario) (turns : List ℕ) (S T P : ℕ → Bool) (cpu : ℕ)
         → IsPartitioned (run (boot scenario) turns) (Of S) (Of T) (Of P) → IsTimeless (run (boot scenario) turns) (Of P)
         → own_turn S (run (boot scenario) turns) cpu ≡ None
         → IsLeftAlone (run (boot scenario) turns) (Of S) (Of P) cpu }
-    ensures turns { (scenario : Scenario) (before turns : List ℕ) (S T P : ℕ → Bool)
+    ensures turns { (revokes : Bool) (scenario : Scenario) (before turns : List ℕ) (S T P : ℕ → Bool)
         → IsPartitioned (run (boot scenario) before) (Of S) (Of T) (Of P) → IsTimeless (run (boot scenario) before) (Of P)
-        → AreAtWorkTimeless S (run (boot scenario) before) turns
-        → AreLeftAlone S P (run (boot scenario) before) turns }
+        → (revokes ≡ true → DerivesWithin (run (boot scenario) before) (Of S))
+        → AreAtWorkTimeless revokes S (run (boot scenario) before) turns
+        → AreLeftAlone revokes S P (run (boot scenario) before) turns }
 {}
 
 /// Take two runs, from sound states in which a side's part is the same, that have the same turns of the side, in which
-/// it is at work without deadlines and alarms, while each other turn leaves its part alone. At their ends its part is the same, and
-/// so was all that it did, however many turns of others came, when they came, and whatever they did.
+/// it is at work without deadlines and alarms and gives within itself, while each other turn leaves its part alone. If it
+/// may revoke, its ranges were made of each other alike and in one order in both states, and all that is made of them is
+/// its own along both runs. At their ends its part is the same, and so was all that it did, however many turns of others
+/// came, when they came, and whatever they did.
 pub fn unwinding()
-    ensures { (k l : KernelState) (turns others : List ℕ) (S P : ℕ → Bool) → IsSound k → IsSound l
-        → IsSide k (Of S) (Of P) → AreAlike k l (Of S) (Of P)
-        → AreLeftAlone S P k turns → AreLeftAlone S P l others → AreAtWorkTimeless S k turns
+    ensures { (revokes : Bool) (k l : KernelState) (turns others : List ℕ) (S P : ℕ → Bool) → IsSound k → IsSound l
+        → IsSide k (Of S) (Of P) → AreAlike k l (Of S) (Of P) → (revokes ≡ true → AreDerivedAlike k l (Of S))
+        → AreLeftAlone revokes S P k turns → AreLeftAlone revokes S P l others → AreAtWorkTimeless revokes S k turns
         → schedule S k turns ≡ schedule S l others
         → AreAlikeAlong k l turns others S P }
 {}
 
 /// Noninterference, relative to the side's own turns. Take two runs, of any two scenarios, a place in each, and a side
 /// whose part is the same at both places, and that is partitioned off there from all others that may ever act. In the
-/// first run, let it be at work from there on, without deadlines and alarms. If the two runs have the same turns of the side, by
-/// who acts and who pays, its part is the same at their ends, and all that it did is: whatever others are and do in
-/// each, and whenever their turns come.
+/// first run, let it be at work from there on, without deadlines and alarms; if it may revoke, at neither place anything
+/// that others hold was made of what it holds, and its ranges were made of each other alike and in one order. If the two
+/// runs have the same turns of the side, by who acts and who pays, its part is the same at their ends, and all that it
+/// did is: whatever others are and do in each, and whenever their turns come.
 pub fn noninterference()
-    ensures { (a b : Scenario) (before since turns others : List ℕ) (S T U P : ℕ → Bool)
+    ensures { (revokes : Bool) (a b : Scenario) (before since turns others : List ℕ) (S T U P : ℕ → Bool)
         → IsPartitioned (run (boot a) before) (Of S) (Of T) (Of P) → IsTimeless (run (boot a) before) (Of P)
         → IsPartitioned (run (boot b) since) (Of S) (Of U) (Of P) → IsTimeless (run (boot b) since) (Of P)
         → AreAlike (run (boot a) before) (run (boot b) since) (Of S) (Of P)
-        → AreAtWorkTimeless S (run (boot a) before) turns
+        → (revokes ≡ true → AreRevokingWithin (run (boot a) before) (run (boot b) since) (Of S))
+        → AreAtWorkTimeless revokes S (run (boot a) before) turns
         → schedule S (run (boot a) before) turns ≡ schedule S (run (boot b) since) others
         → AreAlikeAlong (run (boot a) before) (run (boot b) since) turns others S P }
 {}
@@ -79,17 +93,18 @@ pub fn noninterference()
 /// Noninterference of a side that is at home. Take two runs, of any two scenarios, a place in each, and a side whose
 /// part is the same at both places, times included, and that is partitioned off there from all others that may ever act.
 /// Let it have processors of its own: from there on nobody else's execution context is on them, but parked, dead or
-/// blocked for good, and all of its are. In the first run, let it be at work from there on. If the turns of its
-/// processors come in the same order, however many turns of other processors come between them, then at the ends of
+/// blocked for good, and all of its are. In the first run, let it be at work from there on; it may revoke as in
+/// `noninterference`. If the turns of its processors come in the same order, however many turns of other processors come between them, then at the ends of
 /// both runs its part is the same, with clocks, deadlines, alarms and quanta, and so are all that it did and all events
 /// on its processors: whatever others are and do in each. On one processor the number of its turns is all.
 pub fn noninterference_at_home()
-    ensures { (a b : Scenario) (before since turns others : List ℕ) (S T U P C : ℕ → Bool)
+    ensures { (revokes : Bool) (a b : Scenario) (before since turns others : List ℕ) (S T U P C : ℕ → Bool)
         → IsPartitioned (run (boot a) before) (Of S) (Of T) (Of P) → IsPartitioned (run (boot b) since) (Of S) (Of U) (Of P)
         → AreAtHome S P C (run (boot a) before) turns → AreAtHome S P C (run (boot b) since) others
         → AreAlike (run (boot a) before) (run (boot b) since) (Of S) (Of P)
         → AreTimed (run (boot a) before) (run (boot b) since) (Of P) (Of C)
-        → AreAtWork S (run (boot a) before) turns
+        → (revokes ≡ true → AreRevokingWithin (run (boot a) before) (run (boot b) since) (Of S))
+        → AreAtWork revokes S (run (boot a) before) turns
         → filter C turns ≡ filter C others
         → AreAlikeAtHome (run (boot a) before) (run (boot b) since) turns others S P C }
 {}
@@ -98,23 +113,25 @@ pub fn noninterference_at_home()
 /// conditions of the two states, but for being at work: the processors are divided between the side and the others, which never come to the
 /// side's.
 pub fn noninterference_on_divided_processors()
-    ensures { (a b : Scenario) (before since turns others : List ℕ) (S T U P C : ℕ → Bool)
+    ensures { (revokes : Bool) (a b : Scenario) (before since turns others : List ℕ) (S T U P C : ℕ → Bool)
         → IsPartitioned (run (boot a) before) (Of S) (Of T) (Of P) → IsPartitioned (run (boot b) since) (Of S) (Of U) (Of P)
         → IsDivided (run (boot a) before) (Of S) (Of T) (Of P) (Of C) → IsDivided (run (boot b) since) (Of S) (Of U) (Of P) (Of C)
         → AreAlike (run (boot a) before) (run (boot b) since) (Of S) (Of P)
         → AreTimed (run (boot a) before) (run (boot b) since) (Of P) (Of C)
-        → AreAtWork S (run (boot a) before) turns
+        → (revokes ≡ true → AreRevokingWithin (run (boot a) before) (run (boot b) since) (Of S))
+        → AreAtWork revokes S (run (boot a) before) turns
         → filter C turns ≡ filter C others
         → AreAlikeAtHome (run (boot a) before) (run (boot b) since) turns others S P C }
 {}
 
 /// A run of 65 turns from a boot state meets the premises of noninterference. A root makes two guests on a processor each, a virtual CPU with a
 /// scheduling context, and a monitor for each, with a page, a handler and a portal to it that the guest holds, and dies. Then the first guest
-/// and its monitor are partitioned off, without alarms and deadlines; the processors are divided; and the guest has the next turn of the first
-/// one.
+/// and its monitor are partitioned off, without alarms and deadlines; the processors are divided; nothing that others hold was made of what they
+/// hold; and the guest has the next turn of the first one.
 pub fn a_run_comes_to_the_premises()
     ensures partitioned { IsPartitioned (run (boot two_homes) (replicate 65 0)) (Of first_domains) (Of other_domains) (Of first_objects) }
     ensures timeless { IsTimeless (run (boot two_homes) (replicate 65 0)) (Of first_objects) }
     ensures divided { IsDivided (run (boot two_homes) (replicate 65 0)) (Of first_domains) (Of other_domains) (Of first_objects) (Of first_processors) }
+    ensures revoking { AreRevokingWithin (run (boot two_homes) (replicate 65 0)) (run (boot two_homes) (replicate 65 0)) (Of first_domains) }
     ensures acts { own_turn first_domains (run (boot two_homes) (replicate 65 0)) 0 ≡ Some (11, 13) }
 {}

@@ -1,4 +1,4 @@
--- Who acts in a turn: what the turn answers, and what it is for a virtual CPU.
+-- The context that acts in a turn: what the turn answers, and what it is for a virtual CPU.
 use Rattle.std.proofs.Common.{◌≡◌, ℕ, refl, sym, ap, ◌∙◌, subst}
 use Rattle.std.specs.Prelude.{Option, Some, None, option_map}
 use Rattle.std.proofs.lemmas.Option.{same_Some}
@@ -13,7 +13,7 @@ use Rattle.nova_model.specs.declared.event.Turn.TheVariants.{Stepped}
 use Rattle.law_forest.specs.Turns.{Acts, Idles, Passes, Takes}
 use Rattle.law_forest.proofs.Turning.{comes, idle_none, passing_none}
 
--- what holds of who is chosen holds of who acts
+-- what holds of the chosen context holds of the context that acts
 pub who_acts : (P : ℕ → Type 0) (k : KernelState) (cpu ec : ℕ) → option_map (λ c. c.actor) (next_to_act k cpu) ≡ Some ec →
     ((c : Candidate) → next_to_act k cpu ≡ Some c → P c.actor) → P ec
 who_acts P k cpu ec acts holds = by_chosen (next_to_act k cpu) refl acts
@@ -33,7 +33,7 @@ chosen_answers k cpu c chosen = elim (comes k cpu) [
   ]
 ]
 
--- and its input: what holds of none, and of the deed of who is chosen, holds of it
+-- and its input: what holds of none, and of the deed of the chosen context, holds of it
 pub chosen_input : (k : KernelState) (cpu g : ℕ) (c : Candidate) → next_to_act k cpu ≡ Some c → input k cpu g ≡ input_of k c.actor g (deed k c.actor)
 unfolding input
 chosen_input k cpu g c chosen = ap (λ (o : Option Candidate). input_by k g o) chosen

@@ -97,7 +97,7 @@ named_used k domain is right selector = by_capability (find (covers Obj domain s
     by_capability None found = tt
     by_capability (Some d) found = by_object d (found_in (covers Obj domain selector) k.delegations.list d found) (slice_get k.objects d.target) refl
 
--- one that names a protection domain with create is that of a capability with which it may be made in
+-- a selector that names a protection domain with create is that of a capability with which it may be made in
 record IsNamed (k : KernelState) (domain owner : ℕ) : Type 0 where
   creator : MayCreate k domain
   its : owner ≡ creator.capability.target

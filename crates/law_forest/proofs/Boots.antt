@@ -27,7 +27,7 @@ use Rattle.law_forest.proofs.Transfers.{kind_itself}
 begins_last : (a b : Derivation) → a.base + 2 ^ a.order ≤ b.base → AreApart a b
 begins_last a b before = grind (arith, before)
 
--- one that does not cover a selector is apart from one that is there alone
+-- a derivation that does not cover a selector is apart from one of that selector alone
 uncovered_apart : (a x : Derivation) → x.order ≡ 0 → covers x.kind x.pd x.base a ≡ false → a.pd ≡ x.pd → a.kind ≡ x.kind → AreApart a x
 uncovered_apart a x order free pd kind =
     let not_there : has_place (range_of a) x.base ≡ false =
@@ -152,7 +152,7 @@ with_sc_is_all order consoles =
     ap₂ (λ (l : List Derivation) (n : ℕ). record { list = l; next = n })
     (joined (pages order consoles).list (object_derivation consoles 0 1) (object_derivation consoles 1 7) (object_derivation consoles 2 1)) next
 
--- the state without images, and the one with them
+-- the state without images, and the state with them
 pub bare_forest : (cpus ram consoles : ℕ) (root : Root) → IsForest (bare cpus ram consoles root).delegations
 bare_forest cpus ram consoles root =
     let first = forest_add (pages ram consoles) (object_derivation consoles 0 1) (pages_forest ram consoles) (pd_fits ram consoles) in

@@ -23,7 +23,7 @@ absorbed false true true false false = refl
 absorbed false true false inside more = refl
 absorbed false false met inside more = refl
 
--- a new one with a parent
+-- a new derivation with a parent
 pub busy_child : (r : Revocation) (f : Delegations) → IsForest f → (x p : Derivation) → x.id ≡ f.next → parent_of f.list x ≡ Some p →
     busy r f.list x ≡ ((is_made_of r x (Some p) || in_scope r f.list p) || is_met r x)
 busy_child r f forest x p id is =

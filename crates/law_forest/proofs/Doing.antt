@@ -27,12 +27,11 @@ set_at Q (o ∷ xs) zero (suc f) x old new = old
 set_at Q (o ∷ xs) (suc e) zero x old new = old
 set_at Q (o ∷ xs) (suc e) (suc f) x old new = set_at Q xs e f x old (λ same. new (ap suc same))
 
--- an exit leaves the registers of who raised it
+-- an exit leaves the registers of the context that raised it
 regs_stay : (k : KernelState) (ec : ℕ) (s : State) → (context (with_context k ec (record (context k ec) { state = s })) ec).regs ≡ (context k ec).regs
 regs_stay k ec s = set_at (λ (o : Option EcState). (context_in o).regs ≡ (context k ec).regs) k.contexts ec ec (record (context k ec) { state = s }) refl (λ same. refl)
 
--- an instruction
--- the state after one that went on, by what its store reaches of its words
+-- an instruction: the state after an instruction that went on, by what its store reaches of its words
 abbrev went : KernelState → ℕ → Registers → Option Store → Option (ℕ × List ℕ) → KernelState
 went k ec regs store words = applied k (record (effect k ec Rests) {
   edits = (ec, Moves regs) ∷ [];

@@ -1,4 +1,4 @@
--- Members of a list by a test, and of a list the one that goes before all: of least number or of greatest.
+-- Members of a list by a test, and of a list the member that goes before all: of least number or of greatest.
 use Rattle.std.proofs.Common.{◌≡◌, ℕ, List, [], ◌∷◌, ap, sym, ◌∙◌, subst, inl, inr, refl, arith}
 use Rattle.std.specs.Prelude.{Bool, true, false, nat_le, filter, if◌then◌else◌, Some, None, is_some}
 use Rattle.std.specs.List.{find, list_all, list_any}
@@ -34,7 +34,7 @@ pub filter_same : {T : Type 0} (p q : T → Bool) (xs : List T) → ((x : T) →
 filter_same p q [] h = refl
 filter_same p q (x ∷ xs) h = rw (h x (inl refl)) (ap (λ l. if q x then x ∷ l else l) (filter_same p q xs (λ y i. h y (inr i))))
 
--- WHO GOES BEFORE ALL
+-- WHAT GOES BEFORE ALL
 
 every_at : {T : Type 0} (p : T → Bool) (xs : List T) (x : T) → list_all p xs ≡ true → IsIn xs x → p x ≡ true
 every_at p [] x all i = absurd i

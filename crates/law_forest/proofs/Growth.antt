@@ -59,7 +59,7 @@ deed_grows k ec =
     let is = done_is k ec (deed k ec) in
     grows k (done k ec (deed k ec)) ec (deed k ec) (deed_allowed k ec) (ap (λ (s : KernelState). s.objects) is) (ap (λ (s : KernelState). s.delegations) is)
 
--- a turn, whoever takes it
+-- a turn, whichever context takes it
 pub record HasGrown (old new : KernelState) : Type 0 where
   pub ec : ℕ
   pub grows : Grows old ec new

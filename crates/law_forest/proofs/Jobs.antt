@@ -40,7 +40,7 @@ clamped_ranges sent window hotspot giver receiver of_sent of_window =
       dest = record { order = dest.order; aligned = dest.aligned; base = dest.base };
     }
 
--- what holds of each clamped item holds of the one that was read
+-- what holds of each clamped item holds of the item that was read
 item_holds : (P : Job → Type 0) (sent window : Option (Range × Rights)) (hotspot giver receiver : ℕ) (j : Job) →
     ((s w : Range × Rights) → sent ≡ Some s → window ≡ Some w → P (job_at s.0 s.1 (clamp_of s.0 w.0 hotspot) giver receiver)) →
     job_between sent window hotspot giver receiver ≡ Ok j → P j
@@ -60,7 +60,7 @@ job_ranges word second window giver receiver j is =
     item_holds AreRanges (read_as (meaning_of word)) (read_as (meaning_of window)) (hotspot_in second) giver receiver j
     (λ s w sent taken. clamped_ranges s w (hotspot_in second) giver receiver (read_range word s sent) (read_range window w taken)) is
 
--- who gives, who is given to, and what the word reads as, with its rights
+-- the giver, the receiver, and what the word reads as, with its rights
 pub record IsBetween (word from to : ℕ) (j : Job) : Type 0 where
   pub giver : j.giver ≡ from
   pub receiver : j.receiver ≡ to

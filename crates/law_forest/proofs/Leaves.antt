@@ -69,7 +69,7 @@ way_ends r f forest (suc n) d i most h = by_child (λ c j m g. way_ends r f fore
 top_taken : (r : Revocation) (list : List Derivation) (t : Derivation) → is_top r list t ≡ true → in_scope r list t ≡ true
 top_taken r list t h = or_left (is_top r list t) (list_any (is_top r list) (line_by t.id list (parent_of list t))) h
 
--- one that is met is of the revoker
+-- a derivation that is met is of the revoker
 met_pd : (r : Revocation) (d : Derivation) → is_met r d ≡ true → (d.pd == r.pd) ≡ true
 met_pd r d h = (and_parts (d.pd == r.pd) _ (and_parts _ (d.pd == r.pd && _) h).1).0
 

@@ -1,4 +1,4 @@
--- The revokes that run: where one does, and that what no test of them finds is in the way of none.
+-- The revokes that run: where a context runs one, and that what no test of them finds is in the way of none.
 use Rattle.std.proofs.Common.{◌≡◌, ℕ, zero, suc, ◌+◌, ◌<◌, ◌^◌, List, [], ◌∷◌, ap, ap₂, sym, ◌∙◌, subst, inl, inr, refl, arith}
 use Rattle.std.specs.Prelude.{Bool, true, false, ◌==◌, ◌&&◌, ◌||◌, nat_lt, length, slice_get, Contains, Option, Some, None, option_and_then}
 use Rattle.std.specs.List.{cons_option, filter_map, list_any, range_with_len}
@@ -19,7 +19,7 @@ use Rattle.nova_model.specs.declared.delegation.Derivation.{Derivation}
 use Rattle.law_forest.proofs.Busy.{busy_root}
 use Rattle.law_forest.proofs.Members.{IsIn, all_at, none_any, contains_from_in}
 
--- one that is in this state is there, and its revoke runs
+-- a context in this state is there, and its revoke runs
 pub revokes_there : (k : KernelState) (ec : ℕ) (range : Range) (own : Bool) → (context k ec).state ≡ Revoking range own →
     revoke_of k ec ≡ Some (record { pd = pd_of k ec; range = range; own = own })
 revokes_there k ec range own is = by_entry (context_at k ec) is

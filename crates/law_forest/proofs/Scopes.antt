@@ -117,14 +117,14 @@ filters_swap p q (x ∷ xs) = by_test (filters_swap p q xs) (p x) refl (q x) ref
     by_test rest false e true f = simp (e, f) rest
     by_test rest false e false f = simp (e, f) rest
 
--- one more that has no child and is not in the scope leaves it
+-- a derivation more that has no child and is not in the scope leaves it
 pub scope_more : (r : Revocation) (list : List Derivation) (x : Derivation) → IsChildless list x.id → in_scope r (list ++ x ∷ []) x ≡ false →
     scope r (list ++ x ∷ []) ≡ scope r list
 scope_more r list x childless out =
     filter_more (in_scope r (list ++ x ∷ [])) list x out ∙
     filter_same (in_scope r (list ++ x ∷ [])) (in_scope r list) list (λ d i. same_in_scope r list (list ++ x ∷ []) (more_keeps list x childless) d i)
 
--- one that has no child goes: the scope is what it was, without it
+-- a derivation that has no child goes: the scope is what it was, without it
 pub scope_without : (r : Revocation) (f : Delegations) (gone : ℕ) → IsChildless f.list gone →
     scope r (without f gone).list ≡ filter (λ (d : Derivation). not (d.id == gone)) (scope r f.list)
 scope_without r f gone childless =

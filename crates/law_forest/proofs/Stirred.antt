@@ -8,11 +8,11 @@ use Rattle.nova_model.specs.State.{KernelState, entry}
 use Rattle.nova_model.specs.declared.deed.Deed.{Deed}
 use Rattle.nova_model.specs.declared.deed.Deed.TheVariants.{Refuses}
 
--- the state when the one who acts has done its deed, with what it stirs counted
+-- the state when the context that acts has done its deed, with what it stirs counted
 abbrev pub acted : KernelState → ℕ → KernelState
 acted k ec = stirred k ec (deed k ec) (done k ec (deed k ec))
 
--- of who is not stirred the count stays
+-- the count of a context that is not stirred stays
 pub count_stays : (k : KernelState) (ec : ℕ) (d : Deed) (g : ℕ) → is_stirred k ec d g ≡ false → (o : Option ℕ) → option_map (stirred_count k ec d g) o ≡ o
 count_stays k ec d g calm None = refl
 count_stays k ec d g calm (Some count) = rw calm refl
@@ -30,7 +30,7 @@ with_guests s counts = record s { stirs = record s.stirs { guests = counts } }
 pub stirred_calm : (k : KernelState) (ec : ℕ) (d : Deed) (s : KernelState) → ((g : ℕ) → is_stirred k ec d g ≡ false) → stirred k ec d s ≡ s
 stirred_calm k ec d s calm = ap (with_guests s) (none_stirred k ec d calm 0 s.stirs.guests)
 
--- one that is nothing for who does it, and for no other, is none; a refused call is such
+-- a deed that is no input for the context that does it, nor for another, is none; a refused call is such
 pub calm_by : (k : KernelState) (ec : ℕ) (d : Deed) → own_input d ≡ None → ((g : ℕ) → others_input k ec g d ≡ None) → (g : ℕ) → is_stirred k ec d g ≡ false
 unfolding input_of
 calm_by k ec d own others g = by_test (ec == g)

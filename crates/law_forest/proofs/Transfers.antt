@@ -176,7 +176,7 @@ free_child_fits f j d forest source dest is free =
       apart = not_held f.list (child_of j f.next d) free;
     }
 
--- a child that is judged good is the one that was looked at, and fits
+-- a child that is judged good is the child that was looked at, and fits
 pub child_fits : (busy : Derivation → Bool) (f : Delegations) (j : Job) (d x : Derivation) → IsForest f → IsRange (source_of j) → IsRange (dest_of j) →
     next_source f.list j ≡ Some d → judged busy f.list (child_of j f.next d) ≡ Ok x → (x ≡ child_of j f.next d) × IsFitting f x
 child_fits busy f j d x forest source dest is ok =

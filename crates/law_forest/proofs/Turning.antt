@@ -41,14 +41,14 @@ charged_is s cpu sc stirs guests is =
     ap (λ (gs : List (Option ℕ)). counted (paid_by (record s { stirs = record s.stirs { guests = gs } }) sc (quantum_in (slice_get s.objects sc)) (budget_at s sc)) cpu) is
     ∙ paid_is (record s { stirs = record s.stirs { guests = stirred_counts stirs 0 s.stirs.guests } }) cpu sc (budget_at s sc) refl
 
--- the turn of who is chosen
+-- the turn of the chosen context
 pub acting_is : (k : KernelState) (cpu : ℕ) (c : Candidate) → charged (stirred k c.actor (deed k c.actor) (done k c.actor (deed k c.actor))) cpu c.sc ≡ turned k cpu (acting k c)
 acting_is k cpu c =
     charged_is (done k c.actor (deed k c.actor)) cpu c.sc (is_stirred k c.actor (deed k c.actor)) _
     (counts_is k c.actor (deed k c.actor) 0 (done k c.actor (deed k c.actor)).stirs.guests)
     ∙ ap (λ (s : KernelState). settled s cpu (acting k c)) (done_is k c.actor (deed k c.actor))
 
--- a turn that is counted alone stirs nobody
+-- a turn that is counted alone stirs no context
 pub calm_counts : (g : ℕ) (counts : List (Option ℕ)) → stirred_counts (λ g. false) g counts ≡ counts
 calm_counts g [] = refl
 calm_counts g (None ∷ counts) = ap (λ (l : List (Option ℕ)). None ∷ l) (calm_counts (g + 1) counts)
@@ -58,7 +58,7 @@ counted_is : (k s : KernelState) (cpu : ℕ) (p : Passing) → counted s cpu ≡
 counted_is k s cpu p =
     ap (λ (gs : List (Option ℕ)). record (counted s cpu) { stirs = record (counted s cpu).stirs { guests = gs } }) (sym (calm_counts 0 s.stirs.guests))
 
--- the turn of an alarm, by whom it wakes
+-- the turn of an alarm, by the context that it wakes
 ringing_is : (k : KernelState) (alarm : ℕ) (up : Result (Option ℕ) Overflow) →
     rings_at k alarm (alarm_sm (slice_get k.times.alarms alarm)) up
     ≡ applied k (record (passing_effect k (Falls (due.Alarm alarm))) {
@@ -96,7 +96,7 @@ comes k cpu = by_due (due_on k.times cpu) refl
         Takes (passing k (Falls (due.Deadline ec))) (passing_event k cpu (Falls (due.Deadline ec))) (Passes (Falls (due.Deadline ec)) is refl refl)
         (counted_is k (applied k (passing_effect k (Falls (due.Deadline ec)))) cpu (Falls (due.Deadline ec))) refl
 
--- nobody acts on an idle processor
+-- no context acts on an idle processor
 pub idle_none : (k : KernelState) (cpu : ℕ) → choice k cpu ≡ None → next_to_act k cpu ≡ None
 unfolding next_to_act
 idle_none k cpu none = by_due (due_on k.times cpu)
@@ -136,7 +136,7 @@ nothing_due k cpu none = by_entry (next_entry k.times cpu) none
     by_entry None is = refl
     by_entry (Some e) is = absurd cc
 
--- who acts is chosen, and nothing is due then
+-- the context that acts is chosen, and nothing is due then
 pub acts_chosen : (k : KernelState) (cpu : ℕ) (c : Candidate) → next_to_act k cpu ≡ Some c → (choice k cpu ≡ Some c) × (due_on k.times cpu ≡ None)
 unfolding next_to_act
 acts_chosen k cpu c acts = by_due (due_on k.times cpu) acts
@@ -145,13 +145,13 @@ acts_chosen k cpu c acts = by_due (due_on k.times cpu) acts
     by_due None is = (is, refl)
     by_due (Some what) is = absurd cc
 
--- and nobody does in a turn of what comes by itself
+-- and none acts in a turn of what comes by itself
 pub passing_none : (k : KernelState) (cpu : ℕ) (p : Passing) → IsPassing k cpu p → next_to_act k cpu ≡ None
 unfolding next_to_act
 passing_none k cpu (Falls what) is = ap (λ (o : Option Due). unless_due o (choice k cpu)) is
 passing_none k cpu Ticks is = ap (λ (o : Option Due). unless_due o (choice k cpu)) is.0 ∙ is.1
 
--- who acts takes the turn
+-- the context that acts takes the turn
 pub chosen_turn : (k : KernelState) (cpu : ℕ) (c : Candidate) → next_to_act k cpu ≡ Some c → after k cpu ≡ turned k cpu (acting k c)
 chosen_turn k cpu c chosen = elim (comes k cpu) [
   | Idles none moment same answer ↦ absurd (let both : None ≡ Some c = sym (idle_none k cpu none) ∙ chosen in cc)
@@ -163,7 +163,7 @@ chosen_turn k cpu c chosen = elim (comes k cpu) [
   ]
 ]
 
--- what comes by itself takes it where it is the one thing that may
+-- what comes by itself takes the turn where nothing else may
 only_passing : (k : KernelState) (cpu : ℕ) (q : Passing) → next_to_act k cpu ≡ None → (choice k cpu ≡ None → next_moment k.times cpu ≡ None → ⊥) → ((p : Passing) → IsPassing k cpu p → p ≡ q) →
     (after k cpu ≡ turned k cpu (passing k q)) × (answer_of (turn k cpu) ≡ Stepped (passing_event k cpu q))
 only_passing k cpu q nobody busy only = elim (comes k cpu) [
@@ -211,7 +211,7 @@ pub tick_answers : (k : KernelState) (cpu : ℕ) → due_on k.times cpu ≡ None
     answer_of (turn k cpu) ≡ Stepped (passing_event k cpu Ticks)
 tick_answers k cpu calm none moment = (tick_only k cpu calm none moment).1
 
--- no turn is taken exactly where nobody is chosen
+-- no turn is taken exactly where none is chosen
 none_answered : (o : Option Step) → answer_of o ≡ Idle → o ≡ None
 none_answered None is = refl
 none_answered (Some s) is = absurd cc
@@ -250,7 +250,7 @@ turn_of k cpu e answers = elim (comes k cpu) [
       record { turning = t; comes = subst (IsTurning k cpu t) event is; state = state }
 ]
 
--- what holds of the event of who is chosen, and of the state after, and of the event of what comes by itself, holds of the event of a turn
+-- what holds of the event of the chosen context, and of the state after, and of the event of what comes by itself, holds of the event of a turn
 pub of_events : (P : Event → Type 0) (k : KernelState) (cpu : ℕ) (e : Event) → answer_of (turn k cpu) ≡ Stepped e →
     ((p : Passing) → IsPassing k cpu p → after k cpu ≡ turned k cpu (passing k p) → P (passing_event k cpu p)) →
     ((c : Candidate) → next_to_act k cpu ≡ Some c → after k cpu ≡ turned k cpu (acting k c) → P (event_of cpu c (deed k c.actor))) → P e
@@ -268,7 +268,7 @@ passing_kind k cpu (Falls (due.Alarm alarm)) = refl
 passing_kind k cpu (Falls (due.Deadline ec)) = refl
 passing_kind k cpu Ticks = refl
 
--- what holds of the event of who is chosen, and of the state after, holds of the event of a turn of another kind
+-- what holds of the event of the chosen context, and of the state after, holds of the event of a turn of another kind
 pub of_event : (P : Event → Type 0) (k : KernelState) (cpu : ℕ) (e : Event) → is_passing e.kind ≡ false → answer_of (turn k cpu) ≡ Stepped e →
     ((c : Candidate) → next_to_act k cpu ≡ Some c → after k cpu ≡ turned k cpu (acting k c) → P (event_of cpu c (deed k c.actor))) → P e
 of_event P k cpu e other answers holds = by_turn (turn_of k cpu e answers)

@@ -17,7 +17,7 @@ use Rattle.law_forest.proofs.Changes.{first_fits}
 use Rattle.law_forest.proofs.Growth.{turn_grows}
 use Rattle.law_forest.proofs.Running.{idle_under}
 
--- a leaf that is taken is a part of this revoke where the one who runs it acts
+-- a leaf that is taken is a part of this revoke where the context that runs it acts
 taken_under : (k new : KernelState) (runner actor : ℕ) (r : Revocation) → IsForest k.delegations → revoke_of k runner ≡ Some r → HasTaken k actor new →
     ChangeUnder r runner actor k.delegations new.delegations
 taken_under k new runner actor r forest runs g = by_test (runner == actor) refl
@@ -48,7 +48,7 @@ turn_under k cpu runner r forest runs = by_choice (next_to_act k cpu) (turn_grow
     by_choice None s = s.delegations
     by_choice (Some c) g = grows_under k (after k cpu) runner c.actor r forest runs g
 
--- each such change is at most one allowed step, which is a part only where the one who runs the revoke acts
+-- each such change is at most one allowed step, which is a part only where the context that runs the revoke acts
 pub under_course : (r : Revocation) (runner actor : ℕ) (old new : Delegations) (change : ChangeUnder r runner actor old new) → IsCourse r old new (leaves_in change)
 under_course r runner actor old new (StaysUnder same) = record { steps = []; short = omega arith; allowed = tt; ends = same; parts = refl }
 under_course r runner actor old new (JoinsUnder d fits idle is) = record { steps = Joins d ∷ []; short = omega arith; allowed = ((fits, idle), tt); ends = is; parts = refl }

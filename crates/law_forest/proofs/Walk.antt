@@ -54,7 +54,7 @@ abbrev pub IfDone : {A : Type 0} → (A → Type 0) → Result A Status → Type
 IfDone P (Ok x) = P x
 IfDone P (Err status) = Unit {0}
 
--- ONE THAT GIVES NO ITEMS
+-- A CONTEXT THAT GIVES NO ITEMS
 
 -- an exit that it raised finds this portal, and comes to this at its handler
 pub record IsExit (k : KernelState) (ec pt reason q0 q1 : ℕ) (comes : ExitAdmit) : Type 0 where
@@ -90,12 +90,12 @@ hypercall_holds P k ec domain r refuses rows = by_call (call_of r) refl
     by_call (Ok c) is = by_deed (row k ec domain c) (rows c is)
     by_call (Err status) is = refuses (reg r 17) status
 
--- of one that makes a hypercall
+-- of a context that makes a hypercall
 pub asking_holds : (P : Deed → Type 0) (k : KernelState) (ec : ℕ) → is_asking (context k ec).state ≡ true → Holds P k ec →
     P (hypercall k ec (pd_of k ec) (context k ec).regs)
 asking_holds P k ec asks h = hypercall_holds P k ec (pd_of k ec) (context k ec).regs h.refuses (h.rows asks)
 
--- of one whose exit is raised and not sent
+-- of a context whose exit is raised and not sent
 pub exits_holds : (P : Deed → Type 0) (k : KernelState) (ec reason q0 q1 : ℕ) → raised_exit (context k ec).state ≡ Some (reason, q0, q1) → Holds P k ec →
     P (exits k ec reason q0 q1)
 exits_holds P k ec reason q0 q1 raised h = by_portal (exit_portal k ec reason) refl
@@ -109,8 +109,8 @@ exits_holds P k ec reason q0 q1 raised h = by_portal (exit_portal k ec reason) r
     by_portal (Err status) portal = h.dies reason q0
     by_portal (Ok pt) portal = by_admit pt (exit_admitted k.contexts ec (handler_of k pt)) (record { raised = raised; portal = portal; admits = refl })
 
--- of the row of semaphores: what holds of an up, of a down that is done and of one that waits
--- until when a down may wait: without end, or to a deadline at its semaphore, on its processor, that is not yet due after this turn
+-- of the row of semaphores: what holds of an up, of a down that is done and of a down that waits, until when it may wait: without end, or to a
+-- deadline at its semaphore, on its processor, that is not yet due after this turn
 pub record IsDeadlineOf (k : KernelState) (ec sm : ℕ) (d : Deadline) : Type 0 where
   pub processor : d.cpu ≡ processor_of k ec
   pub waits_at : d.sm ≡ sm
@@ -165,7 +165,7 @@ sm_ctrl_holds P k ec domain selector (act.DownWithin ticks) ups downs blocks = b
     by_name (Ok sm) is = by_answer sm is (answer_of (semaphore k.semaphores sm)) refl
     by_name (Err status) is = tt
 
--- of one that is about to do an instruction
+-- of a context that is about to do an instruction
 pub ready_holds : (P : Deed → Type 0) (k : KernelState) (ec : ℕ) (test : Bool) → is_asking (context k ec).state ≡ true → Holds P k ec → P (ready k ec test)
 ready_holds P k ec true asks h = h.raises recall 0 0
 ready_holds P k ec false asks h = by_instruction (instruction k ec)
@@ -178,7 +178,7 @@ ready_holds P k ec false asks h = by_instruction (instruction k ec)
     by_instruction (Raised reason q0 q1) = by_signal reason q0 q1 _
     by_instruction (Went regs store) = h.steps
 
--- of one that revokes
+-- of a context that revokes
 pub revoking_holds : (P : Deed → Type 0) (k : KernelState) (ec : ℕ) (range : Range) (own : Bool) → (context k ec).state ≡ Revoking range own → Holds P k ec →
     P (deeds.removes (next_leaf (record { pd = pd_of k ec; range = range; own = own }) k.delegations))
 revoking_holds P k ec range own is h = by_leaf (next_leaf (record { pd = pd_of k ec; range = range; own = own }) k.delegations) refl
@@ -187,7 +187,7 @@ revoking_holds P k ec range own is h = by_leaf (next_leaf (record { pd = pd_of k
     by_leaf None none = h.returns range own is none
     by_leaf (Some leaf) next = h.removes range own leaf is next
 
--- ONE THAT GIVES ITEMS
+-- A CONTEXT THAT GIVES ITEMS
 
 -- what the present item reads as, where it is a delegation
 abbrev pub job_in : Delivery → Result Job Skip
@@ -268,7 +268,7 @@ delivers_holds P k ec (Some v) present rests h = delivered_holds P k ec v presen
 
 -- EACH
 
--- of one that gives no items, and of one that gives some
+-- of a context that gives no items, and of a context that gives some
 pub own_holds : (P : Deed → Type 0) (k : KernelState) (ec : ℕ) → is_giving (context k ec).state ≡ false → P Rests → Holds P k ec → P (deed k ec)
 unfolding deed
 own_holds P k ec not_giving rests h = by_state (context k ec).state refl not_giving

@@ -6,14 +6,14 @@ use Rattle.nova_model.specs.Forest.{IsFitting, IsChildless}
 use Rattle.nova_model.specs.Revokes.{Revocation, busy, next_leaf, revoked}
 use Rattle.nova_model.specs.declared.delegation.Derivation.{Derivation}
 
--- they stay as they are, or one that fits joins, or one that is no parent goes
+-- derivations stay as they are, or a derivation that fits joins, or one that is no parent goes
 pub data Change (old new : Delegations) : Type 0 where
   Stays : new ≡ old → Change old new
   Joins : (d : Derivation) → IsFitting old d → new ≡ added old d → Change old new
   Goes : (d : Derivation) → Contains old.list d → IsChildless old.list d.id → new ≡ without old d.id → Change old new
 
--- The same while the revoke of an execution context runs, by who acts: they stay; or one joins that fits and is not busy for this revoke; or the
--- one who runs it acts and takes its next leaf; or another one acts and takes one that is no parent.
+-- The same while the revoke of an execution context runs, by the context that acts: they stay; or a derivation joins that fits and is not busy for
+-- this revoke; or the runner acts and takes its next leaf; or another context acts and takes a derivation that is no parent.
 pub data ChangeUnder (r : Revocation) (runner actor : ℕ) (old new : Delegations) : Type 0 where
   StaysUnder : new ≡ old → ChangeUnder r runner actor old new
   JoinsUnder : (d : Derivation) → IsFitting old d → busy r old.list d ≡ false → new ≡ added old d → ChangeUnder r runner actor old new
@@ -25,7 +25,7 @@ abbrev pub leaves_in : {r : Revocation} → {runner actor : ℕ} → {old new : 
 leaves_in (TakesPart same leaf next is) = 1
 leaves_in other = 0
 
--- in a turn it is the chosen one who acts; an idle processor leaves all
+-- in a turn the chosen candidate acts; an idle processor leaves all
 abbrev pub ChangesUnder : Revocation → ℕ → Option Candidate → Delegations → Delegations → Type 0
 ChangesUnder r runner None old new = new ≡ old
 ChangesUnder r runner (Some chosen) old new = ChangeUnder r runner chosen.actor old new

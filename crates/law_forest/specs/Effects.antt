@@ -75,7 +75,7 @@ all_edited cs ((n, e) ∷ es) = all_edited (edit_at cs n e) es
 
 -- EFFECTS
 
--- a derivation joins, or the one of an id goes
+-- a derivation joins, or that of an id goes
 pub data Branch : Type 0 where
   Joins : Derivation → Branch
   Goes : ℕ → Branch
@@ -201,7 +201,7 @@ abbrev pub wakes_by : Option ℕ → Edits
 wakes_by None = []
 wakes_by (Some w) = (w, Answers Success None) ∷ []
 
--- with the message words of the one who replies, after the words of an item
+-- with the message words of the context that replies, after the words of an item
 abbrev pub follows_by : ℕ → List ℕ → Sequel → Edits
 follows_by ec m sequel.Item = (ec, Stays) ∷ []
 follows_by ec m sequel.Opened = (ec, Answers Success None) ∷ []
@@ -257,7 +257,7 @@ abbrev pub store_by : KernelState → ℕ → Deed → Option (AddressSpace × S
 store_by k ec deed.Steps = option_map (λ s. (address_space k ec, s)) (store_of (instruction k ec))
 store_by k ec other = None
 
--- who is woken has no deadline any more, and who waits to one has it
+-- a woken context has no deadline any more, and a context that waits to a deadline has it
 abbrev pub cleared_by : Option ℕ → Option (ℕ × Option Deadline)
 cleared_by None = None
 cleared_by (Some w) = Some (w, None)
@@ -292,7 +292,7 @@ pub data Passing : Type 0 where
   Falls : Due → Passing
   Ticks : Passing
 
--- what comes of a semaphore that an alarm ups, and who then goes on, with its status
+-- what comes of a semaphore that an alarm ups, and of the context that then goes on, with its status
 abbrev pub alarm_up : KernelState → ℕ → Result (Option ℕ) o.Overflow
 alarm_up k alarm = woken (semaphore k.semaphores (alarm_sm (slice_get k.times.alarms alarm)))
 

@@ -1,4 +1,4 @@
--- What a turn may do to objects and delegations, and by whom.
+-- What a turn may do to objects and delegations, and by which context.
 use Rattle.std.specs.Prelude.{◌≡◌, ℕ, ◌<◌, ◌≤◌, ◌^◌, ◌==◌, Bool, Contains, true, false, [], ◌∷◌, ◌++◌, length, option_map, slice_get, Option, Some, None}
 use Rattle.nova_objects.specs.declared.object.Object.{Object}
 use Rattle.nova_objects.specs.declared.object.Object.TheVariants.{Pd, Ec, Sc, Pt}
@@ -24,7 +24,7 @@ use Rattle.nova_model.specs.declared.delegation.Derivation.{Derivation}
 use Rattle.nova_model.specs.declared.transfer.Delivery.{Delivery}
 use Rattle.law_forest.specs.Courses.{IsLeaf}
 
--- a protection domain holds a capability to a protection domain, with the right to make objects in that one
+-- a protection domain holds a capability to a protection domain, with the right to make objects in that domain
 pub record MayCreate (k : KernelState) (domain : ℕ) : Type 0 where
   pub capability : Derivation
   pub there : Contains k.delegations.list capability
@@ -63,10 +63,10 @@ IsBoundBy k domain (Sc ec cpu priority quantum) = IsFirstSchedule k domain ec cp
 IsBoundBy k domain (Pt ec mtd ip) = MayUse k domain is_local bind_portal_right ec
 IsBoundBy k domain other = Unit {0}
 
--- the capability of a new object: its maker's, of the next id and without a parent, at a selector below 2^20 that the maker's domain did not
--- hold, with all rights to the object, whose number is the next. The maker's domain may make objects in a protection domain, and an
--- execution context is made in that one, and may bind the object as it is bound. It is in the way of no running revoke. Where delegations are a
--- sound forest each id of theirs is less.
+-- the capability of a new object: its maker's, of the next id and without a parent, at a selector below 2^20 that the maker's domain did not hold,
+-- with all rights to the object, whose number is the next. The maker's domain may make objects in a protection domain, and an execution context is
+-- made in that domain, and may bind the object as it is bound. It is in the way of no running revoke. Where delegations are a sound forest each id of
+-- theirs is less.
 pub record IsFirstCapability (k : KernelState) (maker : ℕ) (object : Object) (d : Derivation) : Type 0 where
   pub pd : d.pd ≡ pd_of k maker
   pub id : d.id ≡ k.delegations.next
@@ -83,11 +83,11 @@ pub record IsFirstCapability (k : KernelState) (maker : ℕ) (object : Object) (
   pub idle : is_busy k d ≡ false
   pub newest : IsForest k.delegations → (a : Derivation) → Contains k.delegations.list a → a.id < d.id
 
--- a child that is given, by the present item of one that acts, which gives a first range as a creator, takes the items of its caller's message or
--- gives those of its reply: of a derivation of the item's giver, to the item's receiver, of the next id and of the same kind, with at least
--- one right and none that the derivation or the item does not have, at places that the receiver did not hold, and in the way of no running
--- revoke. Where delegations are a sound forest these places are a range, and the child fits: its targets are among those of the derivation.
--- And each id of theirs is less than the child's.
+-- a child that is given, by the present item of a context that acts, which gives a first range as a creator, takes the items of its caller's message
+-- or gives those of its reply: of a derivation of the item's giver, to the item's receiver, of the next id and of the same kind, with at least one
+-- right and none that the derivation or the item does not have, at places that the receiver did not hold, and in the way of no running revoke. Where
+-- delegations are a sound forest these places are a range, and the child fits: its targets are among those of the derivation. And each id of theirs
+-- is less than the child's.
 pub record IsGivenChild (k : KernelState) (actor : ℕ) (child : Derivation) : Type 0 where
   pub item : Delivery
   pub present : delivery k actor (context k actor).state ≡ Some item
@@ -109,7 +109,7 @@ pub record IsGivenChild (k : KernelState) (actor : ℕ) (child : Derivation) : T
   pub fits : IsForest k.delegations → IsFitting k.delegations child
   pub newest : IsForest k.delegations → (a : Derivation) → Contains k.delegations.list a → a.id < child.id
 
--- the leaf that the revoke of one that acts takes away next; where delegations are a sound forest it is in the scope and has no child
+-- the leaf that the revoke of a context that acts takes away next; where delegations are a sound forest it is in the scope and has no child
 pub record IsNextLeaf (k : KernelState) (actor : ℕ) (leaf : Derivation) : Type 0 where
   pub revoke : Revocation
   pub runs : revoke_of k actor ≡ Some revoke
@@ -156,7 +156,7 @@ pub data Grows (old : KernelState) (ec : ℕ) (new : KernelState) : Type 0 where
   GivesChild : HasGiven old ec new → Grows old ec new
   TakesLeaf : HasTaken old ec new → Grows old ec new
 
--- in a turn it is the one who acts; an idle processor leaves all
+-- in a turn the chosen candidate acts; an idle processor leaves all
 abbrev pub GrowsBy : KernelState → Option Candidate → KernelState → Type 0
 GrowsBy old None new = IsSame old new
 GrowsBy old (Some chosen) new = Grows old chosen.actor new

@@ -1,4 +1,4 @@
--- A turn as one value: an effect, whose stir counts rise, and who pays. And the state after it, field by field.
+-- A turn as one value: an effect, whose stir counts rise, and the scheduling context that pays. And the state after it, field by field.
 use Rattle.std.specs.Prelude.{ℕ, ◌≡◌, ◌+◌, Bool, true, false, IsSome, if◌then◌else◌, List, [], ◌∷◌, slice_get, slice_index, slice_set, Option, Some, None, option_map}
 use Rattle.nova_objects.specs.declared.object.Object.{Object}
 use Rattle.nova_model.specs.Choice.{Candidate, choice, next_to_act}
@@ -59,11 +59,11 @@ settled s cpu t = record s {
 abbrev pub turned : KernelState → ℕ → Turning → KernelState
 turned k cpu t = settled (applied k t.effect) cpu t
 
--- the turn of who is chosen
+-- the turn of the chosen candidate
 abbrev pub acting : KernelState → Candidate → Turning
 acting k c = record { effect = effect k c.actor (deed k c.actor); stirs = is_stirred k c.actor (deed k c.actor); charge = Some c.sc }
 
--- the turn of what comes by itself: nobody is stirred, and nobody pays
+-- the turn of what comes by itself: no context is stirred, and none pays
 abbrev pub passing : KernelState → Passing → Turning
 passing k p = record { effect = passing_effect k p; stirs = λ g. false; charge = None }
 

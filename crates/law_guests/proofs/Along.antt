@@ -15,11 +15,10 @@ use Rattle.law_isolation.specs.Sound.{IsSound, IsVirtual}
 use Rattle.law_isolation.proofs.Runs.{reached_sound}
 use Rattle.law_origins.proofs.Actors.{object_stays}
 use Rattle.law_integrity.specs.Confined.{Of, more}
-use Rattle.law_flow.specs.Flow.{AreAlike, AreAtWork, IsAtWork, IsPartitioned, own_turn}
-use Rattle.law_flow.specs.Processors.{AreTimed}
-use Rattle.law_flow.proofs.Away.{GoesHome, IsReached, away_at, away_further, home_at, home_further}
-use Rattle.law_flow.proofs.Home.{HomeTurn}
-use Rattle.law_flow.proofs.Paying.{timed_flipped, timed_through}
+use Rattle.law_flow.specs.Flow.{AreAlike, AreAtWork, IsAtWork, IsPartitioned, RevokesNothing, own_turn, unnumbered, DerivesWithin}
+use Rattle.law_flow.proofs.Within.{own_at}
+use Rattle.law_flow.proofs.Away.{GoesHome, IsReached, away_at, away_further, home_at, home_further, together_first, together_second}
+use Rattle.law_flow.proofs.Home.{AreTogether, HomeTurn}
 use Rattle.law_flow.proofs.Turns.{AreTwins, alike_flipped, alike_through}
 use Rattle.law_guests.proofs.Facts.{ViewFacts}
 use Rattle.law_guests.proofs.Telling.{others_tell_nothing, own_met}
@@ -47,28 +46,28 @@ sound_at : (k : KernelState) (S P : ℕ → Bool) (T : ℕ → Type 0) → IsRea
 sound_at k S P T r = subst IsSound r.is (reached_sound r.scenario r.before)
 
 -- in a turn of a processor of the side's both meet the same
-home_met : ViewFacts → (k l : KernelState) (S P C : ℕ → Bool) (T U : ℕ → Type 0) (cpu g : ℕ) → IsReached k S P T → IsReached l S P U → AreAlike k l (Of S) (Of P) → HomeTurn k l S P C cpu →
-    ((ec sc : ℕ) → own_turn S k cpu ≡ Some (ec, sc) → IsAtWork (Unit {0}) k ec) → IsGuestOf k S g → IsGuestOf l S g → input l cpu g ≡ input k cpu g
-home_met f k l S P C T U cpu g r q alike step works is also = by_own (own_turn S k cpu) refl (own_turn S l cpu) refl
+home_met : ViewFacts → (revokes : Bool) (k l : KernelState) (S P C : ℕ → Bool) (T U : ℕ → Type 0) (cpu g : ℕ) → IsReached k S P T → IsReached l S P U → AreAlike k l (Of S) (Of P) → HomeTurn revokes k l S P C cpu →
+    ((ec sc : ℕ) → own_turn S k cpu ≡ Some (ec, sc) → IsAtWork (Unit {0}) (RevokesNothing k (Of S)) (revokes ≡ true) k ec) → (revokes ≡ true → DerivesWithin k (Of S)) → IsGuestOf k S g → IsGuestOf l S g → input l cpu g ≡ input k cpu g
+home_met f revokes k l S P C T U cpu g r q alike step works within is also = by_own (own_turn S k cpu) refl (own_turn S l cpu) refl
   where
     deeds_so : (o p : Option (ℕ × ℕ)) → own_turn S k cpu ≡ o → own_turn S l cpu ≡ p →
-        option_map {U = ℕ × Deed} (λ (x : ℕ × ℕ). (x.0, deed l x.0)) p ≡ option_map {U = ℕ × Deed} (λ (x : ℕ × ℕ). (x.0, deed k x.0)) o
+        option_map {U = ℕ × Deed} (λ (x : ℕ × ℕ). (x.0, unnumbered (deed l x.0))) p ≡ option_map {U = ℕ × Deed} (λ (x : ℕ × ℕ). (x.0, unnumbered (deed k x.0))) o
     deeds_so o p first second =
-        sym (ap (λ (x : Option (ℕ × ℕ)). option_map {U = ℕ × Deed} (λ (x : ℕ × ℕ). (x.0, deed l x.0)) x) second)
+        sym (ap (λ (x : Option (ℕ × ℕ)). option_map {U = ℕ × Deed} (λ (x : ℕ × ℕ). (x.0, unnumbered (deed l x.0))) x) second)
         ∙ step.deeds
-        ∙ ap (λ (x : Option (ℕ × ℕ)). option_map {U = ℕ × Deed} (λ (x : ℕ × ℕ). (x.0, deed k x.0)) x) first
+        ∙ ap (λ (x : Option (ℕ × ℕ)). option_map {U = ℕ × Deed} (λ (x : ℕ × ℕ). (x.0, unnumbered (deed k x.0))) x) first
 
     by_own : (o : Option (ℕ × ℕ)) → own_turn S k cpu ≡ o → (p : Option (ℕ × ℕ)) → own_turn S l cpu ≡ p → input l cpu g ≡ input k cpu g
     by_own None first None second = quiet_at f l S P U cpu g q second also ∙ sym (quiet_at f k S P T cpu g r first is)
     by_own None first (Some p) second = absurd (let none = deeds_so None (Some p) first second in cc)
     by_own (Some o) first None second = absurd (let none = deeds_so (Some o) None first second in cc)
     by_own (Some o) first (Some p) second =
-        let same : (p.0, deed l p.0) ≡ (o.0, deed k o.0) = same_Some {A = ℕ × Deed} (p.0, deed l p.0) (o.0, deed k o.0) (deeds_so (Some o) (Some p) first second) in
+        let same : (p.0, unnumbered (deed l p.0)) ≡ (o.0, unnumbered (deed k o.0)) = same_Some {A = ℕ × Deed} (p.0, unnumbered (deed l p.0)) (o.0, unnumbered (deed k o.0)) (deeds_so (Some o) (Some p) first second) in
         let who : p.0 ≡ o.0 = ap (λ (x : ℕ × Deed). x.0) same in
-        let done : deed l o.0 ≡ deed k o.0 = ap (deed l) (sym who) ∙ ap (λ (x : ℕ × Deed). x.1) same in
+        let done : unnumbered (deed l o.0) ≡ unnumbered (deed k o.0) = ap (λ (n : ℕ). unnumbered (deed l n)) (sym who) ∙ ap (λ (x : ℕ × Deed). x.1) same in
         let twins : AreTwins k l S P = record { side = r.part.side; alike = alike; first = sound_at k S P T r; second = sound_at l S P U q } in
         let theirs : own_turn S l cpu ≡ Some (o.0, p.1) = second ∙ ap (λ (n : ℕ). Some (n, p.1)) who in
-        own_met f (Unit {0}) k l S P cpu cpu o.0 o.1 p.1 g twins first theirs (works o.0 o.1 first) done is.virtual is.mine
+        own_met f (Unit {0}) k l S P cpu cpu o.0 o.1 p.1 g twins first theirs (own_at (Unit {0}) (revokes ≡ true) S P T k cpu o.0 o.1 twins.first r.part first (works o.0 o.1 first) within) done is.virtual is.mine
 
 -- the second goes on elsewhere alone
 none_elsewhere : ViewFacts → (S P C : ℕ → Bool) (us : List ℕ) (l : KernelState) (U : ℕ → Type 0) (g : ℕ) → GoesHome l S P C U us → IsGuestOf l S g → [] ≡ filter C us → inputs l us g ≡ []
@@ -84,51 +83,51 @@ none_elsewhere f S P C (cpu ∷ us) l U g h also none = by_test (C cpu) refl non
         ∙ later (record { reached = away_further l S P C U cpu h.reached h.home.0 is; home = h.home.1 }) rest
 
 -- the second goes on elsewhere until the next turn of a processor of the side's
-meets_next : ViewFacts → (S P C : ℕ → Bool) (us : List ℕ) (k l : KernelState) (T U : ℕ → Type 0) (cpu : ℕ) (ts : List ℕ) (g : ℕ) → C cpu ≡ true → GoesHome k S P C T (cpu ∷ ts) →
-    ((ec sc : ℕ) → own_turn S k cpu ≡ Some (ec, sc) → IsAtWork (Unit {0}) k ec) → GoesHome l S P C U us → AreAlike k l (Of S) (Of P) → AreTimed k l (Of P) (Of C) → IsGuestOf k S g → IsGuestOf l S g →
+meets_next : ViewFacts → (revokes : Bool) (S P C : ℕ → Bool) (us : List ℕ) (k l : KernelState) (T U : ℕ → Type 0) (cpu : ℕ) (ts : List ℕ) (g : ℕ) → C cpu ≡ true → GoesHome k S P C T (cpu ∷ ts) →
+    ((ec sc : ℕ) → own_turn S k cpu ≡ Some (ec, sc) → IsAtWork (Unit {0}) (RevokesNothing k (Of S)) (revokes ≡ true) k ec) → GoesHome l S P C U us → AreAlike k l (Of S) (Of P) → AreTogether revokes k l S P C → IsGuestOf k S g → IsGuestOf l S g →
     cpu ∷ filter C ts ≡ filter C us →
-    ((vs : List ℕ) (m : KernelState) (V : ℕ → Type 0) → GoesHome m S P C V vs → AreAlike (after k cpu) m (Of S) (Of P) → AreTimed (after k cpu) m (Of P) (Of C) → IsGuestOf m S g → filter C ts ≡ filter C vs →
+    ((vs : List ℕ) (m : KernelState) (V : ℕ → Type 0) → GoesHome m S P C V vs → AreAlike (after k cpu) m (Of S) (Of P) → AreTogether revokes (after k cpu) m S P C → IsGuestOf m S g → filter C ts ≡ filter C vs →
     inputs m vs g ≡ inputs (after k cpu) ts g) → inputs l us g ≡ in_front (input k cpu g) (inputs (after k cpu) ts g)
-meets_next f S P C [] k l T U cpu ts g c first works h alike timed is also same later = absurd (cc)
-meets_next f S P C (other ∷ us) k l T U cpu ts g c first works h alike timed is also same later =
-    by_test (C other) refl same (λ next a t rest. meets_next f S P C us k (after l other) T (more l U other) cpu ts g c first works next a t is (guest_next l S g other also) rest later)
+meets_next f revokes S P C [] k l T U cpu ts g c first works h alike timed is also same later = absurd (cc)
+meets_next f revokes S P C (other ∷ us) k l T U cpu ts g c first works h alike timed is also same later =
+    by_test (C other) refl same (λ next a t rest. meets_next f revokes S P C us k (after l other) T (more l U other) cpu ts g c first works next a t is (guest_next l S g other also) rest later)
   where
     by_test : (t : Bool) → C other ≡ t → cpu ∷ filter C ts ≡ (if t then other ∷ filter C us else filter C us) →
-        (GoesHome (after l other) S P C (more l U other) us → AreAlike k (after l other) (Of S) (Of P) → AreTimed k (after l other) (Of P) (Of C) → cpu ∷ filter C ts ≡ filter C us →
+        (GoesHome (after l other) S P C (more l U other) us → AreAlike k (after l other) (Of S) (Of P) → AreTogether revokes k (after l other) S P C → cpu ∷ filter C ts ≡ filter C us →
         inputs (after l other) us g ≡ in_front (input k cpu g) (inputs (after k cpu) ts g)) →
         in_front (input l other g) (inputs (after l other) us g) ≡ in_front (input k cpu g) (inputs (after k cpu) ts g)
     by_test false out rest goes_on =
         let away = away_at l S P C U other h.reached h.home.0 out in
         ap (λ (o : Option Input). in_front o (inputs (after l other) us g)) (quiet_at f l S P U other g h.reached away.own also)
         ∙ goes_on (record { reached = away_further l S P C U other h.reached h.home.0 out; home = h.home.1 })
-        (alike_through k l (after l other) (Of S) (Of P) alike away.turn.same) (timed_through k l (after l other) (Of P) (Of C) timed away.timed) rest
+        (alike_through k l (after l other) (Of S) (Of P) alike away.turn.same) (together_second revokes k l S P C U other h.reached away timed) rest
     by_test true in_ rest goes_on =
         let one : cpu ≡ other = cc in
         let tails : filter C ts ≡ filter C us = cc in
-        let step = home_at k l S P C T U cpu first.reached h.reached alike timed first.home.0 h.home.0 works c in
+        let step = home_at revokes k l S P C T U cpu first.reached h.reached alike timed first.home.0 h.home.0 works c in
         let rest_same = later us (after l other) (more l U other)
-        (record { reached = home_further l S P C U other h.reached h.home.0 in_ (subst (λ (n : ℕ). (ec sc : ℕ) → own_turn S l n ≡ Some (ec, sc) → IsAtWork (Unit {0}) l ec) one step.works); home = h.home.1 })
-        (subst (λ (n : ℕ). AreAlike (after k cpu) (after l n) (Of S) (Of P)) one step.alike) (subst (λ (n : ℕ). AreTimed (after k cpu) (after l n) (Of P) (Of C)) one step.timed)
+        (record { reached = home_further revokes l S P C U other h.reached h.home.0 in_ (subst (λ (n : ℕ). (ec sc : ℕ) → own_turn S l n ≡ Some (ec, sc) → IsAtWork (Unit {0}) (RevokesNothing l (Of S)) (revokes ≡ true) l ec) one step.works) (λ yes. (timed.within yes).second); home = h.home.1 })
+        (subst (λ (n : ℕ). AreAlike (after k cpu) (after l n) (Of S) (Of P)) one step.alike) (subst (λ (n : ℕ). AreTogether revokes (after k cpu) (after l n) S P C) one step.timed)
         (guest_next l S g other also) tails in
         ap₂ (λ (o : Option Input) (is : List Input). in_front o is)
-        (sym (ap (λ (n : ℕ). input l n g) one) ∙ home_met f k l S P C T U cpu g first.reached h.reached alike step works is also) rest_same
+        (sym (ap (λ (n : ℕ). input l n g) one) ∙ home_met f revokes k l S P C T U cpu g first.reached h.reached alike step works (λ yes. (timed.within yes).first) is also) rest_same
 
-pub inputs_along : ViewFacts → (S P C : ℕ → Bool) (ts us : List ℕ) (k l : KernelState) (T U : ℕ → Type 0) (g : ℕ) → GoesHome k S P C T ts → AreAtWork S k ts → GoesHome l S P C U us → AreAlike k l (Of S) (Of P) →
-    AreTimed k l (Of P) (Of C) → IsGuestOf k S g → IsGuestOf l S g → filter C ts ≡ filter C us → inputs l us g ≡ inputs k ts g
-inputs_along f S P C [] us k l T U g first works h alike timed is also same = none_elsewhere f S P C us l U g h also same
-inputs_along f S P C (cpu ∷ ts) us k l T U g first works h alike timed is also same =
-    by_test (C cpu) refl same (λ j vs m V W next at_work second a t one other rest. inputs_along f S P C ts vs j m V W g next at_work second a t one other rest)
+pub inputs_along : ViewFacts → (revokes : Bool) (S P C : ℕ → Bool) (ts us : List ℕ) (k l : KernelState) (T U : ℕ → Type 0) (g : ℕ) → GoesHome k S P C T ts → AreAtWork revokes S k ts → GoesHome l S P C U us → AreAlike k l (Of S) (Of P) →
+    AreTogether revokes k l S P C → IsGuestOf k S g → IsGuestOf l S g → filter C ts ≡ filter C us → inputs l us g ≡ inputs k ts g
+inputs_along f revokes S P C [] us k l T U g first works h alike timed is also same = none_elsewhere f S P C us l U g h also same
+inputs_along f revokes S P C (cpu ∷ ts) us k l T U g first works h alike timed is also same =
+    by_test (C cpu) refl same (λ j vs m V W next at_work second a t one other rest. inputs_along f revokes S P C ts vs j m V W g next at_work second a t one other rest)
   where
     by_test : (t : Bool) → C cpu ≡ t → (if t then cpu ∷ filter C ts else filter C ts) ≡ filter C us →
-        ((j : KernelState) (vs : List ℕ) (m : KernelState) (V W : ℕ → Type 0) → GoesHome j S P C V ts → AreAtWork S j ts → GoesHome m S P C W vs → AreAlike j m (Of S) (Of P) → AreTimed j m (Of P) (Of C) →
+        ((j : KernelState) (vs : List ℕ) (m : KernelState) (V W : ℕ → Type 0) → GoesHome j S P C V ts → AreAtWork revokes S j ts → GoesHome m S P C W vs → AreAlike j m (Of S) (Of P) → AreTogether revokes j m S P C →
         IsGuestOf j S g → IsGuestOf m S g → filter C ts ≡ filter C vs → inputs m vs g ≡ inputs j ts g) →
         inputs l us g ≡ in_front (input k cpu g) (inputs (after k cpu) ts g)
     by_test true c rest later =
-        meets_next f S P C us k l T U cpu ts g c first works.0 h alike timed is also rest (λ vs m V next a t other tails. later (after k cpu) vs m (more k T cpu) V
-        (record { reached = home_further k S P C T cpu first.reached first.home.0 c works.0; home = first.home.1 }) works.1 next a t (guest_next k S g cpu is) other tails)
+        meets_next f revokes S P C us k l T U cpu ts g c first works.0 h alike timed is also rest (λ vs m V next a t other tails. later (after k cpu) vs m (more k T cpu) V
+        (record { reached = home_further revokes k S P C T cpu first.reached first.home.0 c works.0 (λ yes. (timed.within yes).first); home = first.home.1 }) works.1 next a t (guest_next k S g cpu is) other tails)
     by_test false out rest later =
         let away = away_at k S P C T cpu first.reached first.home.0 out in
         later (after k cpu) us l (more k T cpu) U (record { reached = away_further k S P C T cpu first.reached first.home.0 out; home = first.home.1 }) works.1 h
         (alike_through (after k cpu) k l (Of S) (Of P) (alike_flipped k (after k cpu) (Of S) (Of P) away.turn.same) alike)
-        (timed_through (after k cpu) k l (Of P) (Of C) (timed_flipped k (after k cpu) (Of P) (Of C) away.timed) timed) (guest_next k S g cpu is) also rest
+        (together_first revokes k l S P C T cpu first.reached away timed) (guest_next k S g cpu is) also rest
         ∙ sym (ap (λ (o : Option Input). in_front o (inputs (after k cpu) ts g)) (quiet_at f k S P T cpu g first.reached away.own is))

@@ -17,8 +17,8 @@ use Rattle.law_renaming.specs.Verdicts.{Differ, Equal, IsVerdict, SayTheSame, Ve
 use Rattle.law_guests.proofs.Facts.{ComparingFacts, ViewFacts}
 use Rattle.law_integrity.specs.Confined.{Of}
 use Rattle.law_flow.specs.Flow.{AreAlike, AreAtWork, IsPartitioned}
-use Rattle.law_flow.specs.Processors.{AreTimed}
 use Rattle.law_flow.proofs.Away.{GoesHome}
+use Rattle.law_flow.proofs.Home.{AreTogether}
 use Rattle.law_flow.proofs.Turns.{alike_flipped}
 use Rattle.law_guests.specs.Guests.{AreOneGuest, SaysEqual, only, turns_of, watched}
 use Rattle.law_guests.proofs.Along.{inputs_along}
@@ -61,17 +61,17 @@ one_guest c a b begins = record {
   compares = λ start past v holds. says_equal c start (past ++ inputs_in a) (past ++ inputs_in b) v (ap (λ (is : List Input). past ++ is) (sym begins.inputs)) holds;
 }
 
-pub guests_home : ViewFacts → ComparingFacts → (a b : Scenario) (before since turns others : List ℕ) (S P C : ℕ → Bool) (T U : ℕ → Type 0) (g : ℕ) →
-    IsPartitioned (run (boot a) before) (Of S) T (Of P) → GoesHome (run (boot a) before) S P C T turns → AreAtWork S (run (boot a) before) turns → GoesHome (run (boot b) since) S P C U others →
-    AreAlike (run (boot a) before) (run (boot b) since) (Of S) (Of P) → AreTimed (run (boot a) before) (run (boot b) since) (Of P) (Of C) → filter C turns ≡ filter C others →
+pub guests_home : ViewFacts → ComparingFacts → (revokes : Bool) (a b : Scenario) (before since turns others : List ℕ) (S P C : ℕ → Bool) (T U : ℕ → Type 0) (g : ℕ) →
+    IsPartitioned (run (boot a) before) (Of S) T (Of P) → GoesHome (run (boot a) before) S P C T turns → AreAtWork revokes S (run (boot a) before) turns → GoesHome (run (boot b) since) S P C U others →
+    AreAlike (run (boot a) before) (run (boot b) since) (Of S) (Of P) → AreTogether revokes (run (boot a) before) (run (boot b) since) S P C → filter C turns ≡ filter C others →
     IsVirtual (run (boot a) before) g → S (pd_of (run (boot a) before) g) ≡ true → AreOneGuest (watched a before g turns) (watched b since g others)
-guests_home f c a b before since turns others S P C T U g part goes works also alike timed same virtual mine =
+guests_home f c revokes a b before since turns others S P C T U g part goes works also alike timed same virtual mine =
     let k = run (boot a) before in
     let l = run (boot b) since in
     let p = guest_part k S (Of P) part.side g virtual mine in
     let theirs : IsVirtual (run (boot b) since) g = virtual_same k l (Of S) (Of P) alike g p virtual in
     let domain : S (pd_of (run (boot b) since) g) ≡ true = ap S (domain_same k l (Of S) (Of P) alike g p) ∙ mine in
-    let meets = inputs_along f S P C turns others k l T U g goes works also alike timed (record { virtual = virtual; mine = mine }) (record { virtual = theirs; mine = domain }) same in
+    let meets = inputs_along f revokes S P C turns others k l T U g goes works also alike timed (record { virtual = virtual; mine = mine }) (record { virtual = theirs; mine = domain }) same in
     one_guest c (watched a before g turns) (watched b since g others) (record {
       first = virtual;
       second = theirs;
@@ -81,7 +81,7 @@ guests_home f c a b before since turns others S P C T U g part goes works also a
 
 -- ON ONE PROCESSOR
 
--- turns of it are so many
+-- turns of it are as many
 pub one_order : (cpu : ℕ) (turns others : List ℕ) → turns_of cpu turns ≡ turns_of cpu others → filter (only cpu) turns ≡ filter (only cpu) others
 one_order cpu turns others same = same_lists (filter (only cpu) turns) (filter (only cpu) others) (all_only turns) (all_only others) same
   where

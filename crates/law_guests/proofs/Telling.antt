@@ -1,10 +1,11 @@
 -- What turns are for a virtual CPU of a side: of others nothing, and of the side's own the same in two states in which its part is.
-use Rattle.std.proofs.Common.{◌≡◌, ℕ, ◌+◌, List, [], ◌∷◌, ◌++◌, length, refl, sym, ap, ◌∙◌, subst, arith, inl, inr}
-use Rattle.std.specs.Prelude.{Bool, true, false, ◌==◌, ◌⊎◌, ◌%◌, IfSome, slice_get, is_some, option_map, option_and_then, Option, Some, None, if◌then◌else◌}
-use Rattle.std.specs.List.{list_any}
+use Rattle.std.proofs.Common.{◌≡◌, ℕ, zero, suc, ◌+◌, ◌-◌, ◌^◌, ◌<◌, List, [], ◌∷◌, ◌++◌, length, refl, sym, ap, ap₂, ◌∙◌, subst, arith, inl, inr}
+use Rattle.std.specs.Prelude.{Bool, true, false, ◌==◌, ◌⊎◌, ◌%◌, IfSome, drop, slice_get, take, is_some, option_map, option_and_then, Option, Some, None, if◌then◌else◌}
+use Rattle.std.specs.List.{concat, list_any}
 use Rattle.std.proofs.lemmas.Bool.{and_parts, eqb-true}
 use Rattle.std.proofs.lemmas.Nat.{pow_pos}
 use Rattle.std.proofs.lemmas.Bool.Decides.{nat_tests}
+use Rattle.std.proofs.lemmas.Option.{same_Some}
 use Rattle.rv_model.specs.Step.{Once, Store}
 use Rattle.nova_guest.specs.Admitted.{admits, waits}
 use Rattle.nova_guest.specs.Alone.{applied, replied}
@@ -19,19 +20,25 @@ use Rattle.nova_objects.specs.declared.object.Object.{Object}
 use Rattle.nova_objects.specs.declared.object.Object.TheVariants.{Pd, Ec, Sc, Pt, Sm}
 use Rattle.nova_range.specs.Rights.{write_right}
 use Rattle.nova_range.specs.declared.mtd.Mtd.{Mtd}
+use Rattle.nova_range.specs.declared.range.Kind.{Kind}
+use Rattle.nova_range.specs.declared.range.Kind.TheVariants.{Mem, Obj}
 use Rattle.nova_model.specs.AddressSpaces.{AddressSpace, frame_for}
 use Rattle.nova_model.specs.Boot.{Scenario, boot}
 use Rattle.nova_model.specs.Capabilities.{is_vcpu}
 use Rattle.nova_model.specs.Choice.{Candidate, next_to_act}
 use Rattle.nova_model.specs.Deeds.{address_space, deed, instruction}
 use Rattle.nova_model.specs.Guests.{input}
-use Rattle.nova_model.specs.Inputs.{foreign, foreign_at, foreign_by, in_ram, input_of, is_covered_for, only_if, others_input, own_input, reply_of, store_of}
+use Rattle.nova_model.specs.Delegations.{is_memory}
+use Rattle.nova_model.specs.Forest.{IsForest}
+use Rattle.nova_model.specs.Inputs.{contents_of, foreign, foreign_at, foreign_by, given_of, in_ram, input_of, is_covered_for, only_if, others_input, own_input, reply_of, store_of}
 use Rattle.nova_model.specs.Runs.{after, run}
 use Rattle.nova_model.specs.State.{KernelState, pd_in, pd_of}
-use Rattle.nova_model.specs.Views.{view}
+use Rattle.nova_model.specs.Views.{is_memory_of, view}
 use Rattle.nova_model.specs.declared.context.Mark.TheVariants as mark
 use Rattle.nova_model.specs.declared.deed.Deed.{Deed}
 use Rattle.nova_model.specs.declared.deed.Deed.TheVariants as deeds
+use Rattle.nova_model.specs.declared.delegation.Derivation.{Derivation}
+use Rattle.nova_model.specs.declared.transfer.Sequel.TheVariants as sequel
 use Rattle.law_forest.proofs.Extremes.{any_from, any_in}
 use Rattle.law_isolation.specs.Law.{IsTaken, IsTakenAsSeen, answered}
 use Rattle.law_isolation.specs.Sound.{IsSound, IsVirtual}
@@ -49,13 +56,17 @@ use Rattle.law_integrity.specs.Confined.{IsMember, IsOwned, Of, Reach}
 use Rattle.law_integrity.proofs.Confining.{member_pd}
 use Rattle.law_integrity.proofs.Resting.{acts_in}
 use Rattle.law_integrity.proofs.Stores.{leads_to}
-use Rattle.law_flow.specs.Flow.{HasSameClock, IsAtWork, IsPartitioned, IsSide, own_turn}
-use Rattle.law_flow.proofs.Deciding.{IsOwn, deed_own}
+use Rattle.law_flow.specs.Flow.{AreGivingWithin, AreRevokingWithin, HasSameClock, IsAtWork, IsPartitioned, IsSide, own_turn, unnumbered}
+use Rattle.law_flow.proofs.Deciding.{IsOwn}
+use Rattle.law_flow.proofs.Doing.{frames_same}
+use Rattle.law_flow.proofs.Giving.{child_leads}
 use Rattle.law_flow.proofs.Guarding.{own_from}
 use Rattle.law_flow.proofs.Leaving.{others_leave}
+use Rattle.law_flow.proofs.Pairs.{Alone, IsOwnDeed, Leaf, Part, first_own}
+use Rattle.law_flow.proofs.Parts.{IsPart}
 use Rattle.law_flow.proofs.Seeing.{Both, address_same, frame_same, instruction_same, message_same}
-use Rattle.law_flow.proofs.Turns.{AreTwins, alike_flipped, both, decided, own_acts, own_is, own_there}
-use Rattle.law_guests.proofs.Views.{view_leads, view_same}
+use Rattle.law_flow.proofs.Turns.{AreTwins, alike_flipped, both, decided, own_acts, own_is, own_of, own_there}
+use Rattle.law_guests.proofs.Views.{domain_same, view_leads, view_same}
 
 -- A VIRTUAL CPU OF THE SIDE
 
@@ -241,18 +252,82 @@ others_same timed k l S P b ec g p s covers deeds.Steps own = foreign_same k l S
 others_same timed k l S P b ec g p s covers (deeds.Replies caller mark.Exit false) own = ap (λ (m : List ℕ). only_if (caller == g) (reply_of m)) (message_same k l S P b ec p s)
 others_same timed k l S P b ec g p s covers (deeds.Replies caller mark.Exit true) own = refl
 others_same timed k l S P b ec g p s covers (deeds.Replies caller mark.Call items) own = refl
-others_same timed k l S P b ec g p s covers (deeds.Finishes item end words follows) own = absurd own
+others_same timed k l S P b ec g p s covers (deeds.Finishes item end words (sequel.Replied caller mark.Exit)) own =
+    ap (λ (m : List ℕ). only_if (caller == g) (reply_of m)) (message_same k l S P b ec p s)
+others_same timed k l S P b ec g p s covers (deeds.Finishes item end words (sequel.Replied caller mark.Call)) own = refl
+others_same timed k l S P b ec g p s covers (deeds.Finishes item end words sequel.Item) own = refl
+others_same timed k l S P b ec g p s covers (deeds.Finishes item end words sequel.Opened) own = refl
+others_same timed k l S P b ec g p s covers (deeds.Finishes item end words sequel.Taken) own = refl
 others_same timed k l S P b ec g p s covers (deeds.Gives child cursor) own = absurd own
 others_same timed k l S P b ec g p s covers (deeds.Removes leaf) own = absurd own
 others_same timed k l S P b ec g p s covers other own = refl
+
+-- the contents of frames that a part leads to
+taken_same : {T : Type 0} (n : ℕ) (xs ys : List T) → ((i : ℕ) → i < n → slice_get ys i ≡ slice_get xs i) → take n ys ≡ take n xs
+taken_same zero xs ys same = refl
+taken_same (suc n) [] [] same = refl
+taken_same {T} (suc n) [] (y ∷ ys) same = absurd (let first : ◌≡◌ {A = Option T} (Some y) None = same 0 (omega arith) in cc)
+taken_same {T} (suc n) (x ∷ xs) [] same = absurd (let first : ◌≡◌ {A = Option T} None (Some x) = same 0 (omega arith) in cc)
+taken_same {T} (suc n) (x ∷ xs) (y ∷ ys) same =
+    ap₂ (λ (z : T) (zs : List T). z ∷ zs) (same_Some y x (same 0 (omega arith))) (taken_same n xs ys (λ i below. same (suc i) (omega arith)))
+
+dropped_at : {T : Type 0} (n : ℕ) (xs : List T) (i : ℕ) → slice_get (drop n xs) i ≡ slice_get xs (n + i)
+dropped_at zero xs i = ap (slice_get xs) (omega arith)
+dropped_at (suc n) [] i = refl
+dropped_at (suc n) (x ∷ xs) i = let next : suc (n + i) ≡ suc n + i = omega arith in dropped_at n xs i ∙ ap (slice_get (x ∷ xs)) next
+
+contents_same : (k l : KernelState) (S P : ℕ → Type 0) → Both k l S P → IsForest k.delegations → (child : Derivation) → IsPart k S child → Mem ≡ child.kind →
+    contents_of l.memory.ram child.target child.order ≡ contents_of k.memory.ram child.target child.order
+contents_same k l S P b forest child part kind =
+    ap concat (taken_same (2 ^ child.order) (drop child.target k.memory.ram) (drop child.target l.memory.ram)
+    (λ i below. dropped_at child.target l.memory.ram i ∙ frame_at i below ∙ sym (dropped_at child.target k.memory.ram i)))
+  where
+    frame_at : (i : ℕ) → i < 2 ^ child.order → slice_get l.memory.ram (child.target + i) ≡ slice_get k.memory.ram (child.target + i)
+    frame_at i below =
+        let seen = child_leads k S child forest part child.pd (child.base + i) (record { kind = kind; pd = refl; place = record { from_base = omega arith; before_end = omega (arith, below) } }) in
+        let its : child.target + (child.base + i - child.base) ≡ child.target + i = omega arith in
+        subst (λ (n : ℕ). slice_get l.memory.ram n ≡ slice_get k.memory.ram n) its (frames_same k l S P b (child.target + (child.base + i - child.base)) seen)
+
+memory_kind : (n : Kind) → is_memory n ≡ true → Mem ≡ n
+memory_kind Mem h = refl
+memory_kind Obj h = absurd (cc)
+
+part_same : (k l : KernelState) (S P : ℕ → Type 0) → Both k l S P → IsForest k.delegations → (ec g : ℕ) → pd_of l g ≡ pd_of k g → (child : Derivation) (cursor : ℕ) → IsPart k S child →
+    others_input l ec g (deeds.Gives child cursor) ≡ others_input k ec g (deeds.Gives child cursor)
+part_same k l S P b forest ec g domain child cursor part =
+    ap (λ (n : ℕ). only_if (is_memory_of n child) (given_of l child)) domain ∙ by_test (is_memory_of (pd_of k g) child) refl
+  where
+    by_test : (t : Bool) → is_memory_of (pd_of k g) child ≡ t → only_if t (given_of l child) ≡ only_if t (given_of k child)
+    by_test false is = refl
+    by_test true is =
+        ap (λ (c : List ℕ). Some (input_as.Given child.base child.order child.rights child.target c))
+        (contents_same k l S P b forest child part (memory_kind child.kind (kind_of is)))
+      where
+        kind_of : is_memory_of (pd_of k g) child ≡ true → is_memory child.kind ≡ true
+        kind_of h = (and_parts (is_memory child.kind) (child.pd == pd_of k g) h).0
+
+own_others_same : (timed : Type 0) (k l : KernelState) (S P : ℕ → Type 0) → Both k l S P → IsForest k.delegations → (ec g : ℕ) → P ec → S (pd_of k ec) → pd_of l g ≡ pd_of k g →
+    ((f : ℕ) → is_covered_for l (pd_of l g) f ≡ is_covered_for k (pd_of k g) f) → (d : Deed) → IsOwnDeed timed k S P d → others_input l ec g d ≡ others_input k ec g d
+own_others_same timed k l S P b forest ec g p s domain covers d (Alone own) = others_same timed k l S P b ec g p s covers d own
+own_others_same timed k l S P b forest ec g p s domain covers d (Part child cursor is part) =
+    ap (others_input l ec g) is ∙ part_same k l S P b forest ec g domain child cursor part ∙ sym (ap (others_input k ec g) is)
+own_others_same timed k l S P b forest ec g p s domain covers d (Leaf leaf is mine) =
+    ap (others_input l ec g) is ∙ ap (λ (n : ℕ). only_if (is_memory_of n leaf) (input_as.Taken leaf.base leaf.order)) domain ∙ sym (ap (others_input k ec g) is)
+
+-- numbers of ranges don't matter
+numberless : (k : KernelState) (ec g : ℕ) (d : Deed) → input_of k ec g (unnumbered d) ≡ input_of k ec g d
+unfolding input_of
+numberless k ec g (deeds.Gives child cursor) = refl
+numberless k ec g (deeds.Removes leaf) = refl
+numberless k ec g other = refl
 
 same_of : (k l : KernelState) (ec g : ℕ) (d : Deed) → others_input l ec g d ≡ others_input k ec g d → input_of l ec g d ≡ input_of k ec g d
 unfolding input_of
 same_of k l ec g d same = ap (λ (o : Option Input). if ec == g then own_input d else o) same
 
-pub own_met : ViewFacts → (timed : Type 0) (k l : KernelState) (S P : ℕ → Bool) (cpu other ec sc paid g : ℕ) → AreTwins k l S P → own_turn S k cpu ≡ Some (ec, sc) → own_turn S l other ≡ Some (ec, paid) → IsAtWork timed k ec →
-    deed l ec ≡ deed k ec → IsVirtual k g → S (pd_of k g) ≡ true → input l other g ≡ input k cpu g
-own_met f timed k l S P cpu other ec sc paid g t own also works same virtual mine =
+pub own_met : ViewFacts → (timed : Type 0) (k l : KernelState) (S P : ℕ → Bool) (cpu other ec sc paid g : ℕ) → AreTwins k l S P → own_turn S k cpu ≡ Some (ec, sc) → own_turn S l other ≡ Some (ec, paid) → IsOwnDeed timed k (Of S) (Of P) (deed k ec) →
+    unnumbered (deed l ec) ≡ unnumbered (deed k ec) → IsVirtual k g → S (pd_of k g) ≡ true → input l other g ≡ input k cpu g
+own_met f timed k l S P cpu other ec sc paid g t own also does same virtual mine =
     let its = own_is S k cpu ec sc own in
     let b = both k l S P t in
     let p = own_there S k (Of P) cpu ec sc t.first t.side its in
@@ -261,11 +336,12 @@ own_met f timed k l S P cpu other ec sc paid g t own also works same virtual min
     let covers : (f : ℕ) → is_covered_for l (pd_of l g) f ≡ is_covered_for k (pd_of k g) f =
     λ f. sym (view_covers l g f t.second) ∙ ap (λ (v : Guest). is_covered v.maps f) views ∙ view_covers k g f t.first in
     input_is l other ec g (own_acts S l other ec paid (own_is S l other ec paid also))
-    ∙ ap (input_of l ec g) same
-    ∙ same_of k l ec g (deed k ec) (others_same timed k l (Of S) (Of P) b ec g p its.of covers (deed k ec) (deed_own timed k l (Of S) (Of P) b ec p its.of works))
+    ∙ sym (numberless l ec g (deed l ec)) ∙ ap (input_of l ec g) same ∙ numberless l ec g (deed k ec)
+    ∙ same_of k l ec g (deed k ec) (own_others_same timed k l (Of S) (Of P) b t.first.forest ec g p its.of (domain_same k l (Of S) (Of P) t.alike g q) covers (deed k ec) does)
     ∙ sym (input_is k cpu ec g (own_acts S k cpu ec sc its))
 
-pub own_tells_same : ViewFacts → (k l : KernelState) (S P : ℕ → Bool) (cpu other ec sc g : ℕ) → AreTwins k l S P → own_turn S k cpu ≡ Some (ec, sc) → own_turn S l other ≡ Some (ec, sc) → IsAtWork (HasSameClock k l ec) k ec →
+pub own_tells_same : ViewFacts → (k l : KernelState) (S P : ℕ → Bool) (cpu other ec sc g : ℕ) → AreTwins k l S P → own_turn S k cpu ≡ Some (ec, sc) → own_turn S l other ≡ Some (ec, sc) → IsAtWork (HasSameClock k l ec) (AreGivingWithin k l (Of S) ec) (AreRevokingWithin k l (Of S)) k ec →
     IsVirtual k g → S (pd_of k g) ≡ true → input l other g ≡ input k cpu g
 own_tells_same f k l S P cpu other ec sc g t own also works virtual mine =
-    own_met f (HasSameClock k l ec) k l S P cpu other ec sc sc g t own also works (decided k l S P cpu ec sc t own works) virtual mine
+    own_met f (HasSameClock k l ec) k l S P cpu other ec sc sc g t own also
+    (first_own (HasSameClock k l ec) k l (Of S) (Of P) (deed k ec) (deed l ec) (own_of k l S P cpu ec sc t own works)) (decided k l S P cpu ec sc t own works) virtual mine

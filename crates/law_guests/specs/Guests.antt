@@ -10,13 +10,14 @@ use Rattle.law_renaming.specs.Verdicts.{Equal, IsVerdict, Verdict}
 abbrev pub watched : Scenario → List ℕ → ℕ → List ℕ → Stretch
 watched scenario before g turns = record { scenario = scenario; before = before; guest = g; turns = turns }
 
--- it says that two are equal, with so many inputs on each side
+-- it says that two are equal, with `count` inputs on each side
 abbrev pub SaysEqual : ℕ → Verdict → Type 0
 SaysEqual count (Equal inputs pairs) = inputs ≡ count
 SaysEqual count other = ⊥
 
--- It is one guest in both: its views are equal at the places and at the ends, it has the same inputs and puts out the same, with both qualifications of each exit and every byte, and that is what traces, states and logs
--- show of it. Who compares the two from the places on, or from equal views before, with equal inputs up to the places, finds them equal, with so many inputs.
+-- It is one guest in both: its views are equal at the places and at the ends, it has the same inputs and puts out the same, with both qualifications
+-- of each exit and every byte, and that is what traces, states and logs show of it. A comparison of the two from the places on, or from equal views
+-- before, with equal inputs up to the places, finds them equal, with as many inputs.
 pub record AreOneGuest (a b : Stretch) : Type 0 where
   pub begins : BeginEqual a b
   pub ends : EndEqual a b

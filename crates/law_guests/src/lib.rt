@@ -11,7 +11,7 @@ ghost use Rattle.nova_model.specs.Views.{view};
 ghost use Rattle.law_isolation.specs.Sound.{IsSound, IsVirtual};
 ghost use Rattle.law_integrity.specs.Confined.{Of};
 ghost use Rattle.law_flow.specs.Examples.{first_domains, two_homes};
-ghost use Rattle.law_flow.specs.Flow.{AreAlike, AreAtWork, IsAtWork, HasSameClock, IsPartitioned, IsSide, own_turn};
+ghost use Rattle.law_flow.specs.Flow.{AreAlike, AreAtWork, AreGivingWithin, AreRevokingWithin, IsAtWork, HasSameClock, IsPartitioned, IsSide, own_turn};
 ghost use Rattle.law_flow.specs.Processors.{AreAtHome, AreTimed, IsDivided};
 ghost use Rattle.law_guests.specs.Guests.{AreOneGuest, only, turns_of, watched};
 ghost use Rattle.std.specs.Prelude.{None, Some};
@@ -24,7 +24,8 @@ pub fn a_sides_part_tells_what_its_guests_are_and_meet()
     ensures views { (k l : KernelState) (S P : ℕ → Bool) (g : ℕ) → IsSound k → IsSound l → IsSide k (Of S) (Of P) → AreAlike k l (Of S) (Of P)
         → IsVirtual k g → S (pd_of k g) ≡ true → view l g ≡ view k g }
     ensures inputs { (k l : KernelState) (S P : ℕ → Bool) (cpu other ec sc g : ℕ) → IsSound k → IsSound l → IsSide k (Of S) (Of P) → AreAlike k l (Of S) (Of P)
-        → own_turn S k cpu ≡ Some (ec, sc) → own_turn S l other ≡ Some (ec, sc) → IsAtWork (HasSameClock k l ec) k ec
+        → own_turn S k cpu ≡ Some (ec, sc) → own_turn S l other ≡ Some (ec, sc)
+        → IsAtWork (HasSameClock k l ec) (AreGivingWithin k l (Of S) ec) (AreRevokingWithin k l (Of S)) k ec
         → IsVirtual k g → S (pd_of k g) ≡ true → input l other g ≡ input k cpu g }
     ensures nothing { (scenario : Scenario) (turns : List ℕ) (S T P : ℕ → Bool) (cpu g : ℕ)
         → IsPartitioned (run (boot scenario) turns) (Of S) (Of T) (Of P) → own_turn S (run (boot scenario) turns) cpu ≡ None
@@ -36,18 +37,19 @@ pub fn a_sides_part_tells_what_its_guests_are_and_meet()
     law_views::a_given_map_leaves_the_cells_that_are_there();
 }
 
-/// A guest at home. Take two runs, of any two scenarios, a place in each, and a side that is at home and the same at both
-/// places, as `noninterference_at_home` asks, with a virtual CPU in it. If the turns of its processors come in the same
-/// order, however many turns of other processors come between them, the virtual CPU is one guest in both: registers,
-/// state and memory are equal at the places and at the ends, it has the same inputs, and its exits and bytes are the same,
-/// whatever others are and do in each. Who compares the two, but for frames, finds them equal.
+/// A guest at home: a virtual CPU of a side that is at home is one guest in two runs, whatever others do. Take two runs, of any two scenarios, a
+/// place in each, and a side that is at home and the same at both places, as `noninterference_at_home` asks, with a virtual CPU in it. If the turns
+/// of its processors come in the same order, however many turns of other processors come between them, the virtual CPU is one guest in both:
+/// registers, state and memory are equal at the places and at the ends, it has the same inputs, and its exits and bytes are the same, whatever others
+/// are and do in each. A comparison of the two, but for frames, finds them equal.
 pub fn a_guest_at_home_is_one_guest()
-    ensures { (a b : Scenario) (before since turns others : List ℕ) (S T U P C : ℕ → Bool) (g : ℕ)
+    ensures { (revokes : Bool) (a b : Scenario) (before since turns others : List ℕ) (S T U P C : ℕ → Bool) (g : ℕ)
         → IsPartitioned (run (boot a) before) (Of S) (Of T) (Of P) → IsPartitioned (run (boot b) since) (Of S) (Of U) (Of P)
         → AreAtHome S P C (run (boot a) before) turns → AreAtHome S P C (run (boot b) since) others
         → AreAlike (run (boot a) before) (run (boot b) since) (Of S) (Of P)
         → AreTimed (run (boot a) before) (run (boot b) since) (Of P) (Of C)
-        → AreAtWork S (run (boot a) before) turns
+        → (revokes ≡ true → AreRevokingWithin (run (boot a) before) (run (boot b) since) (Of S))
+        → AreAtWork revokes S (run (boot a) before) turns
         → filter C turns ≡ filter C others
         → IsVirtual (run (boot a) before) g → S (pd_of (run (boot a) before) g) ≡ true
         → AreOneGuest (watched a before g turns) (watched b since g others) }
@@ -61,24 +63,26 @@ pub fn a_guest_at_home_is_one_guest()
     law_renaming::renamings_are_there();
 }
 
-/// So it is by conditions of the two states, but for being at work, where the processors are divided between the side and
-/// the others, and the others hold no right to create. On one processor the number of its turns is all.
+/// A guest is one guest by conditions of the two states, but for being at work, where the processors are divided between the side and the others, and
+/// the others hold no right to create. On one processor the number of its turns is all.
 pub fn a_guest_on_divided_processors_is_one_guest()
-    ensures order { (a b : Scenario) (before since turns others : List ℕ) (S T U P C : ℕ → Bool) (g : ℕ)
+    ensures order { (revokes : Bool) (a b : Scenario) (before since turns others : List ℕ) (S T U P C : ℕ → Bool) (g : ℕ)
         → IsPartitioned (run (boot a) before) (Of S) (Of T) (Of P) → IsPartitioned (run (boot b) since) (Of S) (Of U) (Of P)
         → IsDivided (run (boot a) before) (Of S) (Of T) (Of P) (Of C) → IsDivided (run (boot b) since) (Of S) (Of U) (Of P) (Of C)
         → AreAlike (run (boot a) before) (run (boot b) since) (Of S) (Of P)
         → AreTimed (run (boot a) before) (run (boot b) since) (Of P) (Of C)
-        → AreAtWork S (run (boot a) before) turns
+        → (revokes ≡ true → AreRevokingWithin (run (boot a) before) (run (boot b) since) (Of S))
+        → AreAtWork revokes S (run (boot a) before) turns
         → filter C turns ≡ filter C others
         → IsVirtual (run (boot a) before) g → S (pd_of (run (boot a) before) g) ≡ true
         → AreOneGuest (watched a before g turns) (watched b since g others) }
-    ensures number { (a b : Scenario) (before since turns others : List ℕ) (S T U P : ℕ → Bool) (cpu g : ℕ)
+    ensures number { (revokes : Bool) (a b : Scenario) (before since turns others : List ℕ) (S T U P : ℕ → Bool) (cpu g : ℕ)
         → IsPartitioned (run (boot a) before) (Of S) (Of T) (Of P) → IsPartitioned (run (boot b) since) (Of S) (Of U) (Of P)
         → IsDivided (run (boot a) before) (Of S) (Of T) (Of P) (Of (only cpu)) → IsDivided (run (boot b) since) (Of S) (Of U) (Of P) (Of (only cpu))
         → AreAlike (run (boot a) before) (run (boot b) since) (Of S) (Of P)
         → AreTimed (run (boot a) before) (run (boot b) since) (Of P) (Of (only cpu))
-        → AreAtWork S (run (boot a) before) turns
+        → (revokes ≡ true → AreRevokingWithin (run (boot a) before) (run (boot b) since) (Of S))
+        → AreAtWork revokes S (run (boot a) before) turns
         → turns_of cpu turns ≡ turns_of cpu others
         → IsVirtual (run (boot a) before) g → S (pd_of (run (boot a) before) g) ≡ true
         → AreOneGuest (watched a before g turns) (watched b since g others) }

@@ -1,4 +1,4 @@
--- Two sets that share no object come to share none, and nobody of one comes to wait where the other holds a right.
+-- Two sets that share no object come to share none, and no context of either comes to wait where the other holds a right.
 use Rattle.std.proofs.Common.{◌≡◌, ℕ, ◌<◌, ◌≤◌, ◌⊎◌, List, [], ◌∷◌, ◌++◌, length, sym, ap, ◌∙◌, subst, inl, inr, arith}
 use Rattle.std.specs.Prelude.{Option, Some, option_map}
 use Rattle.std.proofs.lemmas.Option.{slice_get_within}

@@ -1,4 +1,4 @@
--- Whatever a turn changes, the one whose turn it is had the authority for it.
+-- Whatever a turn changes, the context whose turn it is had the authority for it.
 use Rattle.std.proofs.Common.{◌≡◌, ◌⊎◌, ◌/◌, ℕ, List, inl, inr, refl, sym, ap, ◌∙◌, subst}
 use Rattle.std.specs.Prelude.{◌≢◌, IfSome, Bool, true, false, ◌==◌, ◌&&◌, if◌then◌else◌, slice_get, option_map, Option, Some, None}
 use Rattle.std.proofs.lemmas.Option.{same_Some}
@@ -44,7 +44,7 @@ use Rattle.law_integrity.proofs.Passing.{coming, due_in, turned_by_time}
 use Rattle.law_integrity.proofs.Stores.{deed_stores}
 use Rattle.law_integrity.proofs.Tables.{contexts_by, counts_by, counts_right, deadlines_by, identifiers_by, messages_by, semaphores_by, transfers_by}
 
--- WHO ACTS
+-- WHICH CONTEXT ACTS
 
 actor_is : (k : KernelState) (cpu sc ec its_cpu priority quantum : ℕ) (c : Candidate) → candidate_of k cpu sc (Sc ec its_cpu priority quantum) ≡ Some c → c.actor ≡ chase k.contexts ec
 actor_is k cpu sc ec its_cpu priority quantum c is = by_test ((its_cpu == cpu) && acts k.contexts (actor k ec)) is
@@ -85,12 +85,12 @@ HasShares k = (ec : ℕ) (child : Derivation) (cursor : ℕ) → deed k ec ≡ G
 reached_shares : (s : Scenario) (turns : List ℕ) → HasShares (run (boot s) turns)
 reached_shares s turns ec child cursor is = children_shared s turns ec cursor child is
 
--- who is chosen does something
+-- the chosen context does something
 chosen_something : (k : KernelState) (cpu : ℕ) (c : Candidate) → next_to_act k cpu ≡ Some c → TablesFit k → deed k c.actor ≢ Rests
 chosen_something k cpu c chosen fits =
     subst (λ (o : Option Candidate). IfSome o (λ d. deed k d.actor ≢ Rests)) (acts_chosen k cpu c chosen).0 (chosen_does k cpu (is_local_thread k) fits.served.well)
 
--- what the turn of who is chosen leaves, part by part
+-- what the turn of the chosen context leaves, part by part
 turned_right : (k : KernelState) (cpu : ℕ) (c : Candidate) → IsForest k.delegations → HasShares k → AreSelectors k → TablesFit k → next_to_act k cpu ≡ Some c → after k cpu ≡ turned k cpu (acting k c) →
     IsByRight k (turned k cpu (acting k c)) cpu c.actor c.sc
 turned_right k cpu c forest shares selectors fits chosen state =
@@ -139,7 +139,7 @@ pub authorised : (s : Scenario) (turns : List ℕ) (cpu : ℕ) → IsAuthorised 
 authorised s turns cpu =
     turn_authorised (run (boot s) turns) cpu (reached_sound s turns).kept.edges (reached_sound s turns).forest (reached_shares s turns) (are_selectors (run (boot s) turns) (reached_events s turns)) (boot_run_fits s turns)
 
--- who acts is the one whose turn it is
+-- the context that acts is that whose turn it is
 pub authorised_by : (s : Scenario) (turns : List ℕ) (cpu ec : ℕ) → Acting (run (boot s) turns) cpu ec → (sc : ℕ) × HasTurn (run (boot s) turns) cpu ec sc × IsByRight (run (boot s) turns) (after (run (boot s) turns) cpu) cpu ec sc
 authorised_by s turns cpu ec is =
     who_acts (λ n. (sc : ℕ) × HasTurn now cpu n sc × IsByRight now (after now cpu) cpu n sc) now cpu ec is (λ c chosen. (
@@ -152,7 +152,7 @@ authorised_by s turns cpu ec is =
     now : KernelState
     now = run (boot s) turns
 
--- a frame that who acts may not write stays
+-- a frame that the context that acts may not write stays
 pub frames_of : (s : Scenario) (turns : List ℕ) (cpu frame : ℕ) →
     ((ec page : ℕ) → Acting (run (boot s) turns) cpu ec → PageLeadsTo (run (boot s) turns) (pd_of (run (boot s) turns) ec) page write_right frame → ⊥) →
     slice_get (after (run (boot s) turns) cpu).memory.ram frame ≡ slice_get (run (boot s) turns).memory.ram frame

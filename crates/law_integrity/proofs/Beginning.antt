@@ -32,7 +32,7 @@ None_ = Of (λ n. false)
 nobodys : {A : Type 0} (n : ℕ) → None_ n → A
 nobodys n h = absurd (let no : false ≡ true = h in cc)
 
--- all that capabilities lead to is the root's, and so is whoever is there, who is about to run
+-- all that capabilities lead to is the root's, and so is each context that is there, which is about to run
 record IsRoots (k : KernelState) : Type 0 where
   root : slice_get k.objects 0 ≡ Some Pd
   capabilities : (d : Derivation) → Contains k.delegations.list d → d.kind ≡ Obj → IsOwned k Root d.target (slice_get k.objects d.target)

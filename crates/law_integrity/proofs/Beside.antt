@@ -1,4 +1,4 @@
--- The turn of a processor in two states with the same times, in which the same one is chosen.
+-- The turn of a processor in two states with the same times, in which the same candidate is chosen.
 use Rattle.std.proofs.Common.{◌≡◌, ℕ, refl, sym, ap, ◌∙◌, subst}
 use Rattle.std.specs.Prelude.{IsSome, option_map, Option, Some, None}
 use Rattle.nova_model.specs.Choice.{Candidate, choice, next_to_act}
@@ -23,7 +23,7 @@ pub record ChooseSame (k l : KernelState) (cpu : ℕ) : Type 0 where
 pub idle_stays : (k : KernelState) (cpu : ℕ) → choice k cpu ≡ None → next_moment k.times cpu ≡ None → after k cpu ≡ k
 idle_stays k cpu none quiet = ap (state_after k) (none_taken k cpu none quiet)
 
--- what holds of both, of both after what comes by itself, and of both after the turn of who is chosen, holds of both after
+-- what holds of both, of both after what comes by itself, and of both after the turn of the chosen candidate, holds of both after
 pub both_after : (R : KernelState → KernelState → Type 0) (k l : KernelState) (cpu : ℕ) → ChooseSame k l cpu → R k l →
     ((p : Passing) → R (turned k cpu (passing k p)) (turned l cpu (passing l p))) →
     ((c : Candidate) → next_to_act k cpu ≡ Some c → R (turned k cpu (acting k c)) (turned l cpu (acting l c))) → R (after k cpu) (after l cpu)
@@ -54,7 +54,7 @@ both_after R k l cpu same idles passes acts_ = by_due (due_on k.times cpu) refl
     by_due (Some what) is = moved _ _ (due_turn k cpu what is) (due_turn l cpu what (due_same ∙ is)) (passes (Falls what))
     by_due None is = by_choice (choice k cpu) refl is
 
--- and both have the same event, where what comes by itself has it, and the deed of who is chosen is the same
+-- and both have the same event, where what comes by itself has it, and the deed of the chosen context is the same
 pub both_events : (k l : KernelState) (cpu : ℕ) → ChooseSame k l cpu → ((p : Passing) → passing_event l cpu p ≡ passing_event k cpu p) →
     ((c : Candidate) → next_to_act k cpu ≡ Some c → deed l c.actor ≡ deed k c.actor) →
     option_map (λ (s : Step). s.event) (turn l cpu) ≡ option_map (λ (s : Step). s.event) (turn k cpu)

@@ -1,4 +1,4 @@
--- A turn of one of a closed set's looks at no registers and no message words of anybody else.
+-- A turn of a context of a closed set looks at no registers and no message words of any other.
 use Rattle.std.proofs.Common.{◌≡◌, ℕ, List, ◌++◌, subst}
 use Rattle.std.specs.Prelude.{Some}
 use Rattle.nova_model.specs.Boot.{Scenario, boot}
@@ -17,7 +17,7 @@ use Rattle.law_integrity.proofs.Confining.{acting_one, acts_one, waits_edge}
 use Rattle.law_integrity.proofs.Telling as registers
 use Rattle.law_integrity.proofs.Unread as words
 
--- whoever is served by one of a closed set's is of the set
+-- a caller that is served by a context of a closed set is of the set
 pub unread_in : (k : KernelState) (S : ℕ → Type 0) (cpu ec n : ℕ) → IsSound k → IsClosed k S → Acts k cpu ec → IsMember k S ec → (IsMember k S n → ⊥) → AreWordsUnread k cpu n
 unread_in k S cpu ec n sound closed acts_ m none other also reads = by_reads (subst (λ (e : ℕ). ReadsWords k e n) (acts_one k cpu other ec also acts_) reads)
   where

@@ -27,7 +27,7 @@ use Rattle.law_integrity.proofs.Authorised.{authorised_by}
 use Rattle.law_integrity.proofs.Entries.{same_length}
 use Rattle.law_integrity.proofs.Passing.{due_in, turned_by_time}
 
--- one is blocked at a semaphore that is there
+-- a context is blocked at a semaphore that is there
 pub blocked_below : (k : KernelState) (n sm : ℕ) → TablesFit k → option_map (λ x. x.state) (context_at k n) ≡ Some (Blocked sm) → sm < length k.objects
 blocked_below k n sm fits blocked = by_entry (entry (slice_get k.semaphores sm)) refl (fits.blocked.waiting sm n blocked)
   where

@@ -33,7 +33,7 @@ use Rattle.law_integrity.specs.Rights.{MayTake}
 use Rattle.law_integrity.specs.Integrity.{Creates, Gives, GrowsByRight, Keeps, Takes}
 use Rattle.law_integrity.proofs.Parts.{given_rightful, may_take}
 
--- whose domain may have an object made, where one is made
+-- whose domain may have an object made, where an object is made
 pub creator_of : (k : KernelState) (ec : ℕ) (d : Deed) (m : NewObject) → IsAllowed k ec d → made_by d ≡ Some m → MayCreate k (pd_of k ec)
 creator_of k ec (deeds.Makes call target made) m may is = may.creator
 creator_of k ec (deeds.Opens target domain) m may is = may.0.creator
@@ -75,7 +75,7 @@ fewer is (x ∷ xs) = by_test (is x) (fewer is xs)
     by_test true h = omega (arith, h)
     by_test false h = omega (arith, h)
 
--- where a child joins by a deed, it is the one that the deed gives, and what holds of that holds of it
+-- where a child joins by a deed, it is the child that the deed gives, and what holds of that holds of it
 of_given : (P : Derivation → Type 0) (k : KernelState) (ec : ℕ) (child : Derivation) (d : Deed) → deed k ec ≡ d → ((child : Derivation) (cursor : ℕ) → deed k ec ≡ deeds.Gives child cursor → P child) →
     IsGivenChild k ec child → added k.delegations child ≡ branched k.delegations (branch_by k ec d) → P child
 of_given P k ec child (deeds.Gives other cursor) is holds given same =

@@ -193,7 +193,7 @@ pub turns_blind : (s : Scenario) (before turns : List ℕ) (S T : ℕ → Type 0
 turns_blind s before turns S T frame bytes apart only none =
     turns_same (run (boot s) before) turns frame bytes (hidden_from s before turns S T frame apart only none)
 
--- in whatever turn that follows, who acts is of one of the sets
+-- in whatever turn that follows, the context that acts is of one of the sets
 pub acts_along : (s : Scenario) (before turns : List ℕ) (S T : ℕ → Type 0) (cpu ec : ℕ) → AreSeparate (run (boot s) before) S T → Acts (run (run (boot s) before) turns) cpu ec →
     IsMember (run (run (boot s) before) turns) (grown (run (boot s) before) S turns) ec ⊎ IsMember (run (run (boot s) before) turns) (grown (run (boot s) before) T turns) ec
 acts_along s before turns S T cpu ec apart acts_ =

@@ -66,7 +66,7 @@ pub member_later : (k : KernelState) (cpu : ℕ) (S : ℕ → Type 0) (ec : ℕ)
 member_later k cpu S ec m =
     record { domain = m.domain; cpu = m.cpu; kind = m.kind; event = m.event; object = object_kept k cpu ec (Ec m.domain m.cpu m.kind m.event) m.object; of = inl m.of }
 
--- one that is there was of the set before
+-- a context that is there was of the set before
 pub member_was : (k : KernelState) (cpu : ℕ) (S : ℕ → Type 0) (ec : ℕ) → HasTables k → ec < length k.objects → IsMember (after k cpu) (more k S cpu) ec → IsMember k S ec
 member_was k cpu S ec tables within m = by_of m.of
   where
@@ -86,9 +86,9 @@ member_pd k S ec m = subst S (sym (ap pd_in m.object)) m.of
 pub both_member : (k : KernelState) (S T : ℕ → Type 0) (ec : ℕ) → ((n : ℕ) → S n → T n → ⊥) → IsMember k S ec → IsMember k T ec → ⊥
 both_member k S T ec disjoint m n = disjoint (pd_of k ec) (member_pd k S ec m) (member_pd k T ec n)
 
--- WHO ACTS, AND TO WHOM IT GIVES
+-- WHICH CONTEXT ACTS, AND TO WHICH IT GIVES
 
--- one that waits for a reply has an edge to its handler
+-- a context that waits for a reply has an edge to its handler
 pub waits_edge : (k : KernelState) (n h : ℕ) → (context k n).state ≡ Calling h → edge k.contexts n ≡ Some h
 waits_edge k n h is = by_entry (context_at k n) is
   where
@@ -121,7 +121,7 @@ pub exits_in : (k : KernelState) (S : ℕ → Type 0) (ec handler : ℕ) → IsC
 exits_in k S ec handler closed m c =
     owned_at k S c.held.capability c.portal (Pt handler c.mtd c.ip) closed c.held.held.there (subst S (sym c.held.held.holder) (member_pd k S ec m)) c.held.held.kind c.held.leads c.object
 
--- one that acts is of the set, or nothing of what it does touches the set
+-- a context that acts is of the set, or nothing of what it does touches the set
 pub record IsAway (k : KernelState) (S : ℕ → Type 0) (ec : ℕ) : Type 0 where
   pub out : S (pd_of k ec) → ⊥
   pub calls : (handler : ℕ) → CallsAt k ec handler ⊎ ExitsAt k ec handler → IsMember k S handler → ⊥
@@ -234,7 +234,7 @@ pub record IsAfter (k : KernelState) (S : ℕ → Type 0) (cpu : ℕ) : Type 0 w
 pub not_next : (k : KernelState) (n : ℕ) → slice_get k.objects n ≡ Some Pd → n ≡ length k.objects → ⊥
 not_next k n there next = let below = slice_get_within k.objects n Pd there in omega (arith, below, next)
 
--- of a derivation the domain of the set is one that was there
+-- a derivation's domain that is of the set was there
 pub was_in : (k : KernelState) (S : ℕ → Type 0) (cpu n : ℕ) → slice_get k.objects n ≡ Some Pd → more k S cpu n → S n
 was_in k S cpu n there (inl s) = s
 was_in k S cpu n there (inr made) = absurd (not_next k n there made.number)
@@ -303,7 +303,7 @@ capabilities_after k S cpu a d (Child ec acts_ source there within gives) s kind
 pub acts_one : (k : KernelState) (cpu a b : ℕ) → Acts k cpu a → Acts k cpu b → a ≡ b
 acts_one k cpu a b x y = same_Some a b (sym x ∙ y)
 
--- a handler for which one waits is there
+-- a handler for which a context waits is there
 local_there : (os : List Object) (handler : ℕ) → IsOf os is_local handler → handler < length os
 local_there os handler is = by_object (slice_get os handler) refl is
   where

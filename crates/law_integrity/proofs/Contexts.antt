@@ -37,7 +37,7 @@ IsRight k ec n words o = (o ≡ context_at k n) ⊎ ContextBy k ec n words (cont
 
 -- ONE AND TWO EDITS
 
--- of the one who acts alone
+-- of the context that acts alone
 abbrev AreOwn : ℕ → Edits → Type 0
 AreOwn ec [] = Unit {0}
 AreOwn ec ((h, e) ∷ es) = (h ≡ ec) × AreOwn ec es
@@ -117,7 +117,7 @@ stepped k w ec n (Went regs store) apart = own_edit k w ec n (steps_by ec (Went 
 
 -- EACH DEED
 
--- the message words of the one who acts, after its deed
+-- the message words of the context that acts, after its deed
 abbrev pub words_after : KernelState → ℕ → Deed → List ℕ
 words_after k ec d = message (applied k (effect k ec d)) ec
 

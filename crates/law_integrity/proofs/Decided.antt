@@ -1,4 +1,4 @@
--- Whether a side reaches a frame, or holds a right to an object, is decided: there are only so many derivations.
+-- Whether a side reaches a frame, or holds a right to an object, is decided: the derivations are a finite list.
 use Rattle.std.proofs.Common.{◌≡◌, ◌<◌, ◌≤◌, ◌+◌, ◌^◌, ℕ, ◌⊎◌, List, [], ◌∷◌, refl, sym, subst, inl, inr, arith}
 use Rattle.std.specs.Prelude.{Bool, true, false}
 use Rattle.std.proofs.lemmas.Bool.{cases_lt}

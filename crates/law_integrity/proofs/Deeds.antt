@@ -127,7 +127,7 @@ pub deed_same : (k : KernelState) (m : Memory) (ec : ℕ) → instruction (over 
 unfolding deed
 deed_same k m ec same = in_same k m ec same (context k ec).state
 
--- nor is who is chosen
+-- nor is the chosen candidate
 of_same : (k : KernelState) (m : Memory) (cpu sc : ℕ) (o : Object) → candidate_of (over k m) cpu sc o ≡ candidate_of k cpu sc o
 of_same k m cpu sc (Sc ec its priority quantum) = refl
 of_same k m cpu sc other = refl

@@ -176,7 +176,7 @@ turned_edges k cpu c tables r local e h is =
     (edits_go (λ n. IsOf k.objects is_local) k.contexts (edits_by k c.actor (deed k c.actor)) (deed_leads (λ n. IsOf k.objects is_local) k c.actor (deed k c.actor) (awaits_local k c.actor (deed k c.actor) tables r)) local e)
     (λ m made last. born_goes (IsOf k.objects is_local) (length k.objects) m) h is)
 
--- one whose wait ends waits for nobody
+-- a context whose wait ends waits for none
 ends_lead : (P : ℕ → ℕ → Type 0) (o : Option (ℕ × Status)) → AllLead P (ends_by o)
 ends_lead P None = tt
 ends_lead P (Some (w, status)) = (tt, tt)
@@ -217,7 +217,7 @@ local_edges s =
     (λ turns cpu local. subst HasLocalEdges (sym (run_append (boot s) turns (cpu ∷ [])))
     (after_edges (run (boot s) turns) cpu (reached_sound s turns).kept.tables (λ ec. reached_rightful s turns ec) local))
 
--- HOW ONE COMES TO WAIT
+-- HOW A CONTEXT COMES TO WAIT
 
 -- it waited so before; or it came to in a turn of its own, by a portal that its domain held
 abbrev Comes : KernelState → ℕ → ℕ → ℕ → Type 0

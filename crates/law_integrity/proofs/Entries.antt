@@ -1,4 +1,4 @@
--- What holds of each entry of a table after an effect: where one is set, and where one joins.
+-- What holds of each entry of a table after an effect: where an entry is set, and where one joins.
 use Rattle.std.proofs.Common.{◌≡◌, ℕ, zero, suc, List, [], ◌∷◌, ◌++◌, length, refl, sym, ap, ◌∙◌}
 use Rattle.std.specs.Prelude.{Bool, map, slice_get, slice_set, Option, Some, None, option_map}
 use Rattle.std.proofs.lemmas.List.{length-map}

@@ -1,4 +1,4 @@
--- The turn of one whose exit is raised, with other registers: what is not its own differs by the handler's message words alone.
+-- The turn of a context whose exit is raised, with other registers: what is not its own differs by the handler's message words alone.
 use Rattle.std.proofs.Common.{◌≡◌, ℕ, List, refl, sym, ap, ap₂, ◌∙◌, subst}
 use Rattle.std.specs.Prelude.{Bool, slice_get, slice_set, option_map, Option, Some, None, Ok}
 use Rattle.std.proofs.lemmas.Option.{same_Some}

@@ -93,7 +93,7 @@ edge_ec k n handler tables is = context_ec k n tables (by_entry (context_at k n)
     by_entry None e = absurd (cc)
     by_entry (Some x) e = refl
 
--- the domain of one is there
+-- the domain of a context is there
 pub domain_below : (k : KernelState) (n : ℕ) → HasTables k → (m : IsEc k n) → m.domain < length k.objects
 domain_below k n tables m = slice_get_within k.objects m.domain Pd (at_index (Refers k.objects) k.objects n (Ec m.domain m.cpu m.kind m.event) tables.refer m.object)
 
@@ -129,7 +129,7 @@ owned_kept k label cpu side n (Sc donor its priority quantum) tables at own = or
 owned_kept k label cpu side n (Pt handler mtd ip) tables at own = or_member k label cpu side handler tables own
 owned_kept k label cpu side n Sm tables at own = tt
 
--- WHERE ONE WAITS IS A SEMAPHORE
+-- WHAT A BLOCKED CONTEXT WAITS AT IS A SEMAPHORE
 
 pub blocked_object : (k : KernelState) (n sm : ℕ) → TablesFit k → (context k n).state ≡ Blocked sm → slice_get k.objects sm ≡ Some Sm
 blocked_object k n sm fits is = by_slot (slice_get k.semaphores sm) refl (fits.blocked.waiting sm n (by_entry (context_at k n) is))

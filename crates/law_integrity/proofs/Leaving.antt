@@ -45,9 +45,9 @@ use Rattle.law_integrity.proofs.Confining.{Child, IsAway, Newest, Old, Whence, a
 use Rattle.law_integrity.proofs.Resting.{holds_of}
 use Rattle.law_integrity.proofs.Confined.{reach_of, separate_along}
 
--- WHO TOUCHES NOTHING OF A SET
+-- A CONTEXT THAT TOUCHES NOTHING OF A SET
 
--- what one that acts in a turn calls, gives to, serves, controls and is paid by is nothing of the set
+-- what a context that acts in a turn calls, gives to, serves, controls and is paid by is nothing of the set
 pub record IsClear (k : KernelState) (S : ℕ → Type 0) (ec : ℕ) : Type 0 where
   pub away : IsAway k S ec
   pub serves : (caller : ℕ) (mark : Mark) → ServesCaller k ec caller mark → IsMember k S caller → ⊥
@@ -109,7 +109,7 @@ other_identifier k new S ec n handler mtd ip clear is theirs (inr (Controls name
 other_identifier k new S ec n handler mtd ip clear is theirs (inr (NewPortal next to)) =
     absurd (let below = slice_get_within k.objects n (Pt handler mtd ip) is in let at = next.next in omega (arith, below, at))
 
--- who is first at a semaphore is blocked there
+-- the first context at a semaphore is blocked there
 first_blocked : (k : KernelState) (sm n : ℕ) (rest : List ℕ) → AreBlocked k.contexts k.semaphores → (semaphore k.semaphores sm).waiting ≡ n ∷ rest → (context k n).state ≡ Blocked sm
 first_blocked k sm n rest all first =
     let itself : (eqb n n || has rest n) ≡ true = grind (arith) in
@@ -201,7 +201,7 @@ leaves_clear s before S T cpu ec clear acts_ mine =
 
 -- TWO CLOSED SETS
 
--- whoever leads along edges to one of the set is of the set
+-- a context that leads along edges to a context of the set is of the set
 led_member : (k : KernelState) (T : ℕ → Type 0) (ec n : ℕ) (edges : ℕ) → IsClosed k T → IsMember k T ec → after_edges edges (edge k.contexts) n ≡ Some ec → IsMember k T n
 led_member k T ec n zero closed m is = subst (IsMember k T) (sym (same_Some n ec is)) m
 led_member k T ec n (suc edges) closed m is = by_edge (edge k.contexts n) refl is (λ h leads. led_member k T ec h edges closed m leads)

@@ -1,4 +1,4 @@
--- Who has a deadline set it by right.
+-- A context that has a deadline set it by right.
 use Rattle.std.proofs.Common.{◌≡◌, ℕ, zero, suc, List, [], ◌∷◌, ◌++◌, ◌⊎◌, refl, sym, ap, ◌∙◌, subst, inl, inr}
 use Rattle.std.specs.Prelude.{Option, Some, None, option_map}
 use Rattle.std.proofs.lemmas.Option.{same_Some}
@@ -27,7 +27,7 @@ keeps_more : (k : KernelState) (turns : List ℕ) (cpu n : ℕ) (d : Deadline) �
 keeps_more k [] cpu n d now next = (now, next)
 keeps_more k (c ∷ turns) cpu n d now next = (now.0, keeps_more (after k c) turns cpu n d now.1 next)
 
--- one that is there after a turn was there before it, or is set in it
+-- a deadline that is there after a turn was there before it, or is set in it
 abbrev IsSet : KernelState → ℕ → ℕ → Deadline → Type 0
 IsSet k cpu n d = (deadline_of k.times n ≡ Some d) ⊎ (Acts k cpu n × AsksDown k n d.sm × IsOwnDeadline k n d.sm d)
 

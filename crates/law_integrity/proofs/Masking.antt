@@ -35,7 +35,7 @@ over k cs ms = record k { contexts = cs; messages = ms }
 abbrev pub words_in : Words → ℕ → List ℕ
 words_in ms n = message_in (entry (slice_get ms n))
 
--- what one reads of message words is the same: its own, and those of the caller whose items it takes, or to whom it gives the items of a reply
+-- what a context reads of message words is the same: its own, and those of the caller whose items it takes, or to which it gives the items of a reply
 pub record ReadsSame (k : KernelState) (ms : Words) (ec : ℕ) : Type 0 where
   pub own : words_in ms ec ≡ message k ec
   pub taken : (context k ec).state ≡ Granting None → (caller : ℕ) (came : Mark) → (context k ec).caller ≡ Some (caller, came) → words_in ms caller ≡ message k caller
@@ -86,7 +86,7 @@ masked cs g r = record {
   own_states = λ e. field_of (λ x. x.state) _ _ (field_set (λ x. x.state) (λ x r. refl) cs g r e);
 }
 
--- WHOM CALLS AND EXITS REACH
+-- WHICH HANDLERS CALLS AND EXITS REACH
 
 edges_same : (cs ds : Contexts) → AreMasked cs ds → edge cs ≡ edge ds
 edges_same cs ds a = fun_ext (λ e. ap (option_and_then edge_of) (a.states e))
@@ -141,7 +141,7 @@ busy_same k cs ms a = fun_ext (λ x. ap (λ (ws : List Running). list_any (λ w.
 pub revoked_same : (k : KernelState) (cs : Contexts) (ms : Words) → AreMasked cs k.contexts → (pd selector : ℕ) → is_revoked (over k cs ms) pd selector ≡ is_revoked k pd selector
 revoked_same k cs ms a pd selector = ap (λ (ws : List Running). list_any (is_of_objects pd selector) ws) (running_same k cs ms a)
 
--- WHO IS CHOSEN
+-- WHICH CONTEXT IS CHOSEN
 
 acts_same : (cs ds : Contexts) → AreMasked cs ds → (e : ℕ) → acts cs e ≡ acts ds e
 acts_same cs ds a e = ap (acts_as cs) (a.states e) ∙ by_state (state_in ds e)

@@ -1,4 +1,4 @@
--- States that meet the conditions: what these look at, as it is shown, and what follows where nobody waits.
+-- States that meet the conditions: what these look at, as it is shown, and what follows where none waits.
 use Rattle.std.proofs.Common.{◌≡◌, ◌≢◌, ℕ, zero, suc, List, [], ◌∷◌, refl, sym, ap, ◌∙◌, subst}
 use Rattle.std.specs.Prelude.{map, slice_get, Option, Some, None, option_map, option_and_then}
 use Rattle.std.specs.List.{AllByRecursion}
@@ -37,7 +37,7 @@ state_is [] n = refl
 state_is (c ∷ cs) zero = refl
 state_is (c ∷ cs) (suc n) = state_is cs n
 
--- one that waits for nobody and gives nothing
+-- a context that waits for none and gives nothing
 abbrev pub IsCalm : Option State → Type 0
 IsCalm None = Unit {0}
 IsCalm (Some Dead) = Unit {0}

@@ -106,7 +106,7 @@ data IsHeld (d : Derivation) : Type 0 where
 all_held : AllByRecursion IsHeld list
 all_held = (ByRoot refl, (ByRoot refl, (ByRoot refl, (ByRoot refl, (ByRoot refl, (ByRoot refl, (ByRoot refl, (ByRoot refl, (ByRoot refl, (ByRoot refl, (ByRoot refl, (ByRoot refl, (ByRoot refl, (AsMemory 0 (omega arith) refl refl (λ frame leads. inl (leads.first, leads.last)), (AsMemory 0 (omega arith) refl refl (λ frame leads. let low : 8 ≤ frame = leads.first in let high : frame < 9 = leads.last in inr (omega (arith, low, high))), (ByRoot refl, (ByRoot refl, (ByRoot refl, (ByRoot refl, (AsPortal 0 (omega arith) refl refl (inl refl), (AsPortal 0 (omega arith) refl refl (inr refl), (ByRoot refl, (ByRoot refl, (ByRoot refl, (AsMemory 1 (omega arith) refl refl (λ frame leads. inl (leads.first, leads.last)), (AsMemory 1 (omega arith) refl refl (λ frame leads. let low : 9 ≤ frame = leads.first in let high : frame < 10 = leads.last in inr (omega (arith, low, high))), (ByRoot refl, (ByRoot refl, (ByRoot refl, (ByRoot refl, (AsPortal 1 (omega arith) refl refl (inl refl), (AsPortal 1 (omega arith) refl refl (inr refl), (ByRoot refl, (ByRoot refl, tt))))))))))))))))))))))))))))))))))
 
--- everybody is parked, dead or a guest
+-- each context is parked, dead or a guest
 abbrev IsPlaced : ℕ → Option State → Type 0
 IsPlaced n None = Unit {0}
 IsPlaced n (Some Dead) = Unit {0}
@@ -259,7 +259,7 @@ module _ (k : KernelState) (shows : Shows k objects list states) where
   apart_frames n (inr a) (inl b) = let high = b.1 in omega (arith, a, high)
   apart_frames n (inr a) (inr b) = omega (arith, a, b)
 
-  -- who isn't a guest is idle
+  -- a context that isn't a guest is idle
   by_place : (n : ℕ) (s : State) → IsPlaced n (Some s) → IsIdle k (Own k 0) (Own k 1) n s ⊎ (IsMember k (Own k 0) n ⊎ IsMember k (Own k 1) n)
   by_place n Dead o = inl tt
   by_place n Parked o = inl tt

@@ -24,7 +24,7 @@ use Rattle.law_forest.proofs.Members.{all_at, in_from_contains}
 use Rattle.law_origins.specs.Giving.{Acts}
 use Rattle.law_integrity.specs.Confined.{IsMember, IsOwned}
 use Rattle.law_integrity.specs.Examples.{served, sides_served}
-use Rattle.law_integrity.specs.Trusted.{IsWithinPolicy, MayHold, OrTrusted}
+use Rattle.law_integrity.specs.Trusted.{IsWithinPolicy, MayHold, OrTrusted, unshared}
 use Rattle.law_integrity.proofs.Meeting.{AreCalm, Shows, all_calm, no_edge, no_first, no_taking, no_wait}
 
 -- objects, derivations and states after turn 127
@@ -90,33 +90,33 @@ module _ (k : KernelState) (shows : Shows k objects list states) where
   there n = ap (λ (os : List Object). slice_get os n) shows.objects_are
 
   may_hold : (side portal handler mtd ip domain : ℕ) → slice_get objects portal ≡ Some (Pt handler mtd ip) → slice_get objects handler ≡ Some (Ec domain 0 Local 0) → OrTrusted sides_served side domain →
-      MayHold k sides_served side portal
+      MayHold unshared k sides_served side portal
   may_hold side portal handler mtd ip domain object its of_side = record {
     leads = subst (IsOwned k (OrTrusted sides_served side) portal) (sym (there portal ∙ object)) member;
-    alone = λ sm d has kind same. absurd (let both : Some (Pt handler mtd ip) ≡ Some Sm = sym (there portal ∙ object) ∙ sm in cc);
-    waits = λ n blocked. no_wait k n portal calm blocked;
+    alone = λ sm lone d has kind same. absurd (let both : Some (Pt handler mtd ip) ≡ Some Sm = sym (there portal ∙ object) ∙ sm in cc);
+    waits = λ lone n blocked. no_wait k n portal calm blocked;
   }
     where
       member : IsMember k (OrTrusted sides_served side) handler
       member = record { domain = domain; cpu = 0; kind = Local; event = 0; object = there handler ∙ its; of = of_side }
 
-  by_holder : (d : Derivation) → d.kind ≡ Obj → sides_served d.pd ≢ 0 → IsHeld d → MayHold k sides_served (sides_served d.pd) d.target
+  by_holder : (d : Derivation) → d.kind ≡ Obj → sides_served d.pd ≢ 0 → IsHeld d → MayHold unshared k sides_served (sides_served d.pd) d.target
   by_holder d kind some (ByTrusted none) = absurd (some none)
   by_holder d kind some (AsMemory mem) = absurd (let both : Mem ≡ Obj = sym mem ∙ kind in cc)
   by_holder d kind some (AsPortal portal handler mtd ip domain target object its obj of_side) =
-      subst (MayHold k sides_served (sides_served d.pd)) (sym target) (may_hold (sides_served d.pd) portal handler mtd ip domain object its of_side)
+      subst (MayHold unshared k sides_served (sides_served d.pd)) (sym target) (may_hold (sides_served d.pd) portal handler mtd ip domain object its of_side)
 
   held_as : (d : Derivation) → Contains k.delegations.list d → IsHeld d
   held_as d has = all_at IsHeld list d all_held (in_from_contains list d (subst (λ (l : List Derivation). Contains l d) shows.list_is has))
 
-  meets_policy : IsWithinPolicy k sides_served
+  meets_policy : IsWithinPolicy unshared k sides_served
   meets_policy = record {
     capabilities = λ d has kind some. by_holder d kind some (held_as d has);
     edges = λ waiter handler is some. no_edge k calm waiter handler is;
     takes = λ handler caller mark is keeps some. no_taking k handler calm is;
     firsts = λ ec new is some. no_first k ec new calm is;
-    queues = λ n m sm first second some. no_wait k n sm calm first;
+    queues = λ n m sm lone first second some. no_wait k n sm calm first;
   }
 
-pub within_policy : IsWithinPolicy (run (boot served) (replicate 127 0)) sides_served
+pub within_policy : IsWithinPolicy unshared (run (boot served) (replicate 127 0)) sides_served
 within_policy = meets_policy (run (boot served) (replicate 127 0)) shown

@@ -19,11 +19,11 @@ use Rattle.law_integrity.specs.Integrity.{CopiesCall, CopiesExit, CopiesReply, M
 use Rattle.law_integrity.proofs.Own.{exits_at, reached_parked}
 use Rattle.law_integrity.proofs.Stores.{among_words, stores_of}
 
--- of the one who is written
+-- of the context whose words are written
 abbrev Written : KernelState → ℕ → ℕ → List ℕ → Type 0
 Written k ec n m = MessageBy k ec n (Some m)
 
--- what is right for the one who is written is right for the one of this number
+-- what is right for the context whose words are written is right for the context of this number
 abbrev of_one : ℕ → List ℕ → Option (ℕ × List ℕ)
 of_one n m = Some (n, m)
 

@@ -1,4 +1,4 @@
--- What becomes of the one who acts.
+-- What becomes of the context that acts.
 use Rattle.std.proofs.Common.{◌≡◌, ℕ, List, [], ◌∷◌, refl, sym, ap, ◌∙◌, subst, inl, inr}
 use Rattle.std.specs.Prelude.{◌≢◌, ◌==◌, ◌&&◌, Bool, true, false, not, IfSome, is_some, option_map, Option, Some, None}
 use Rattle.std.proofs.lemmas.Bool.{eqb-true}
@@ -76,7 +76,7 @@ raises k ec reason q0 q1 x r = record { number = refl; processor = refl; state =
     by_reason false is true = Unasked refl
     by_reason false is false = Unasked refl
 
--- THE ENTRY OF THE ONE WHO ACTS
+-- THE ENTRY OF THE CONTEXT THAT ACTS
 
 abbrev pub IsOwn : KernelState → ℕ → Option EcState → Type 0
 IsOwn k ec o = (y : EcState) × (o ≡ Some y) × IsItself k ec (context k ec) y
@@ -212,7 +212,7 @@ pub own_by : (k : KernelState) (ec : ℕ) → IsRightful k ec (deed k ec) → As
     IsOwn k ec (ec_in (all_edited k.contexts (edits_by k ec (deed k ec))) ec)
 own_by k ec r asks actor fits = deed_own k ec (deed k ec) refl r asks (deed_opens k ec) actor fits
 
--- WHO ACTS THOUGH IT WAITS FOR A REPLY
+-- A CONTEXT THAT ACTS THOUGH IT WAITS FOR A REPLY
 
 pub aborts_dead : (s : Scenario) (turns : List ℕ) (cpu ec handler : ℕ) → Acts (run (boot s) turns) cpu ec → (context (run (boot s) turns) ec).state ≡ Calling handler →
     is_dead (state_in (run (boot s) turns).contexts handler) ≡ true

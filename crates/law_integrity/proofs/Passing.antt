@@ -1,4 +1,4 @@
--- A turn in which nobody acts, part by part: what is due answers one that is blocked, and all else stays.
+-- A turn in which no context acts, part by part: what is due answers a blocked context, and all else stays.
 use Rattle.std.proofs.Common.{◌≡◌, ℕ, zero, suc, List, [], ◌∷◌, ◌⊎◌, refl, sym, ap, ◌∙◌, subst, inl, inr}
 use Rattle.std.specs.Prelude.{true, IfSome, IsSome, is_some, slice_get, slice_set, Option, Some, None, Ok, Err, Result, option_map}
 use Rattle.std.proofs.lemmas.Option.{same_Some}

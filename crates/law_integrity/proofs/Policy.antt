@@ -1,6 +1,6 @@
 -- A policy of sides and trusted domains after a turn: it holds on, and a side touches nothing of another side.
 use Rattle.std.proofs.Common.{◌≡◌, ◌<◌, ℕ, ◌⊎◌, zero, suc, length, refl, sym, ap, ◌∙◌, subst, inl, inr, arith}
-use Rattle.std.specs.Prelude.{◌≢◌, true, false, Contains, is_some, slice_get, Option, Some, None, option_and_then, option_map}
+use Rattle.std.specs.Prelude.{◌≢◌, Bool, true, false, Contains, is_some, slice_get, Option, Some, None, option_and_then, option_map}
 use Rattle.std.proofs.lemmas.Option.{same_Some, slice_get_within}
 use Rattle.nova_objects.specs.declared.object.EcKind.TheVariants.{Global, Local, Vcpu}
 use Rattle.nova_objects.specs.declared.object.Object.{Object}
@@ -39,41 +39,41 @@ use Rattle.law_integrity.proofs.Leaving.{IsClear}
 -- WHAT A SIDE HOLDS, AND TO WHOM IT GIVES
 
 -- what is held in the domain of one of a side
-held_may : (k : KernelState) (label : ℕ → ℕ) (ec : ℕ) (c : Derivation) → IsWithinPolicy k label → label (pd_of k ec) ≢ 0 → Contains k.delegations.list c → c.kind ≡ Obj → c.pd ≡ pd_of k ec →
-    MayHold k label (label (pd_of k ec)) c.target
-held_may k label ec c policy side there kind holder =
-    subst (λ (n : ℕ). MayHold k label (label n) c.target) holder (policy.capabilities c there kind (λ none. side (ap label (sym holder) ∙ none)))
+held_may : {shared : ℕ → Bool} (k : KernelState) (label : ℕ → ℕ) (ec : ℕ) (c : Derivation) → IsWithinPolicy shared k label → label (pd_of k ec) ≢ 0 → Contains k.delegations.list c → c.kind ≡ Obj → c.pd ≡ pd_of k ec →
+    MayHold shared k label (label (pd_of k ec)) c.target
+held_may {shared} k label ec c policy side there kind holder =
+    subst (λ (n : ℕ). MayHold shared k label (label n) c.target) holder (policy.capabilities c there kind (λ none. side (ap label (sym holder) ∙ none)))
 
-held_owned : (k : KernelState) (label : ℕ → ℕ) (ec : ℕ) (c : Derivation) (n : ℕ) (o : Object) → IsWithinPolicy k label → label (pd_of k ec) ≢ 0 → Contains k.delegations.list c → c.kind ≡ Obj →
+held_owned : {shared : ℕ → Bool} (k : KernelState) (label : ℕ → ℕ) (ec : ℕ) (c : Derivation) (n : ℕ) (o : Object) → IsWithinPolicy shared k label → label (pd_of k ec) ≢ 0 → Contains k.delegations.list c → c.kind ≡ Obj →
     c.pd ≡ pd_of k ec → c.target ≡ n → slice_get k.objects n ≡ Some o → IsOwned k (OrTrusted label (label (pd_of k ec))) n (Some o)
-held_owned k label ec c n o policy side there kind holder target is =
+held_owned {shared} k label ec c n o policy side there kind holder target is =
     subst (IsOwned k (OrTrusted label (label (pd_of k ec))) n) is
     (subst (λ (t : ℕ). IsOwned k (OrTrusted label (label (pd_of k ec))) t (slice_get k.objects t)) target (held_may k label ec c policy side there kind holder).leads)
 
-called_by : (k : KernelState) (label : ℕ → ℕ) (ec handler : ℕ) → IsWithinPolicy k label → label (pd_of k ec) ≢ 0 → CallsAt k ec handler ⊎ ExitsAt k ec handler →
+called_by : {shared : ℕ → Bool} (k : KernelState) (label : ℕ → ℕ) (ec handler : ℕ) → IsWithinPolicy shared k label → label (pd_of k ec) ≢ 0 → CallsAt k ec handler ⊎ ExitsAt k ec handler →
     IsMember k (OrTrusted label (label (pd_of k ec))) handler
-called_by k label ec handler policy side (inl c) =
+called_by {shared} k label ec handler policy side (inl c) =
     held_owned k label ec c.held.at.capability c.portal (Pt handler c.mtd c.ip) policy side c.held.at.held.there c.held.at.held.kind c.held.at.held.holder c.held.at.leads c.object
-called_by k label ec handler policy side (inr c) =
+called_by {shared} k label ec handler policy side (inr c) =
     held_owned k label ec c.held.capability c.portal (Pt handler c.mtd c.ip) policy side c.held.held.there c.held.held.kind c.held.held.holder c.held.leads c.object
 
 -- whom one of a side serves is of the side, or trusted
-served_label : (k : KernelState) (label : ℕ → ℕ) (ec caller : ℕ) (mark : Mark) → IsSound k → IsWithinPolicy k label → IsActor k.contexts ec → label (pd_of k ec) ≢ 0 →
+served_label : {shared : ℕ → Bool} (k : KernelState) (label : ℕ → ℕ) (ec caller : ℕ) (mark : Mark) → IsSound k → IsWithinPolicy shared k label → IsActor k.contexts ec → label (pd_of k ec) ≢ 0 →
     (context k ec).caller ≡ Some (caller, mark) → OrTrusted label (label (pd_of k ec)) (pd_of k caller)
-served_label k label ec caller mark sound policy actor side serves =
+served_label {shared} k label ec caller mark sound policy actor side serves =
     by_waits (policy.edges caller ec (waits_edge k caller ec (awaited _ k.contexts ec caller mark actor serves sound.kept.served).waits) side)
   where
     by_waits : MayWait k label (label (pd_of k ec)) caller → OrTrusted label (label (pd_of k ec)) (pd_of k caller)
     by_waits (inl same) = inl same
     by_waits (inr client) = inr client.0
 
-pub side_gives : (k : KernelState) (label : ℕ → ℕ) (ec giver receiver : ℕ) → IsSound k → IsWithinPolicy k label → IsActor k.contexts ec → label (pd_of k ec) ≢ 0 → GivesTo k ec giver receiver →
+pub side_gives : {shared : ℕ → Bool} (k : KernelState) (label : ℕ → ℕ) (ec giver receiver : ℕ) → IsSound k → IsWithinPolicy shared k label → IsActor k.contexts ec → label (pd_of k ec) ≢ 0 → GivesTo k ec giver receiver →
     (label giver ≡ label (pd_of k ec)) × OrTrusted label (label (pd_of k ec)) receiver
-side_gives k label ec giver receiver sound policy actor side (TakesOfCaller caller mark state serves g r) =
+side_gives {shared} k label ec giver receiver sound policy actor side (TakesOfCaller caller mark state serves g r) =
     (ap label (sym g) ∙ policy.takes ec caller mark state serves side, inl (ap label (sym r)))
-side_gives k label ec giver receiver sound policy actor side (RepliesWith caller mark state serves g r) =
+side_gives {shared} k label ec giver receiver sound policy actor side (RepliesWith caller mark state serves g r) =
     (ap label (sym g), subst (OrTrusted label (label (pd_of k ec))) r (served_label k label ec caller mark sound policy actor side serves))
-side_gives k label ec giver receiver sound policy actor side (GivesFirst state g) = (ap label (sym g), inl (policy.firsts ec receiver state side))
+side_gives {shared} k label ec giver receiver sound policy actor side (GivesFirst state g) = (ap label (sym g), inl (policy.firsts ec receiver state side))
 
 -- CAPABILITIES
 
@@ -92,11 +92,11 @@ child_same : (k : KernelState) (cpu : ℕ) (d source : Derivation) → IsTaken k
 child_same k cpu d source t there kind within = child_target d source kind (order_none k source t.sound.forest there kind) within
 
 -- what a side held, it may hold still
-old_may : (k : KernelState) (label : ℕ → ℕ) (cpu : ℕ) (d : Derivation) → IsTaken k cpu → IsWithinPolicy k label → MayTakeTurn k label cpu → IsStill k label cpu d → Contains k.delegations.list d →
-    d.kind ≡ Obj → label d.pd ≢ 0 → MayHold (after k cpu) (labels_after k label cpu) (label d.pd) d.target
-old_may k label cpu d t policy take still there kind side = record { leads = leads; alone = alone; waits = waits }
+old_may : {shared : ℕ → Bool} (k : KernelState) (label : ℕ → ℕ) (cpu : ℕ) (d : Derivation) → IsTaken k cpu → IsWithinPolicy shared k label → MayTakeTurn shared k label cpu → IsStill k label cpu d → Contains k.delegations.list d →
+    d.kind ≡ Obj → label d.pd ≢ 0 → MayHold shared (after k cpu) (labels_after k label cpu) (label d.pd) d.target
+old_may {shared} k label cpu d t policy take still there kind side = record { leads = leads; alone = alone; waits = waits }
   where
-    may : MayHold k label (label d.pd) d.target
+    may : MayHold shared k label (label d.pd) d.target
     may = policy.capabilities d there kind side
 
     leads : IsOwned (after k cpu) (OrTrusted (labels_after k label cpu) (label d.pd)) d.target (slice_get (after k cpu).objects d.target)
@@ -109,33 +109,33 @@ old_may k label cpu d t policy take still there kind side = record { leads = lea
     was_sm now = let o = t.homed.targets d there kind in o.1 ∙ sym (object_kept k cpu d.target o.0 o.1) ∙ now
 
     -- one that was there
-    old : slice_get k.objects d.target ≡ Some Sm → (e : Derivation) → Contains k.delegations.list e → e.kind ≡ Obj → e.target ≡ d.target → OrTrusted (labels_after k label cpu) (label d.pd) e.pd
-    old sm e has its same = or_kept k label cpu (label d.pd) e.pd (holder_below k cpu e t has) (may.alone sm e has its same)
+    old : slice_get k.objects d.target ≡ Some Sm → shared d.target ≡ false → (e : Derivation) → Contains k.delegations.list e → e.kind ≡ Obj → e.target ≡ d.target → OrTrusted (labels_after k label cpu) (label d.pd) e.pd
+    old sm lone e has its same = or_kept k label cpu (label d.pd) e.pd (holder_below k cpu e t has) (may.alone sm lone e has its same)
 
     -- one that a trusted one gave now
-    given : slice_get (after k cpu).objects d.target ≡ Some Sm → (e : Derivation) (ec : ℕ) → Acts k cpu ec → label (pd_of k ec) ≡ 0 → e.pd < length k.objects → Contains (after k cpu).delegations.list e →
+    given : slice_get (after k cpu).objects d.target ≡ Some Sm → shared d.target ≡ false → (e : Derivation) (ec : ℕ) → Acts k cpu ec → label (pd_of k ec) ≡ 0 → e.pd < length k.objects → Contains (after k cpu).delegations.list e →
         e.kind ≡ Obj → e.target ≡ d.target → OrTrusted (labels_after k label cpu) (label d.pd) e.pd
-    given sm e ec acts_ trusted below has its same = by_label (place (label e.pd) 0)
+    given sm lone e ec acts_ trusted below has its same = by_label (place (label e.pd) 0)
       where
         by_alone : OrTrusted (labels_after k label cpu) (label e.pd) d.pd → OrTrusted (labels_after k label cpu) (label d.pd) e.pd
         by_alone (inl is) = inl (labels_old k label cpu e.pd below ∙ sym is ∙ labels_old k label cpu d.pd (holder_below k cpu d t there))
         by_alone (inr none) = absurd (side (sym (labels_old k label cpu d.pd (holder_below k cpu d t there)) ∙ none))
 
-        by_still : IsStill k label cpu d → MayHold (after k cpu) (labels_after k label cpu) (label e.pd) e.target → OrTrusted (labels_after k label cpu) (label d.pd) e.pd
-        by_still (inl now) its_may = by_alone (its_may.alone (ap (slice_get (after k cpu).objects) same ∙ sm) d now kind (sym same))
+        by_still : IsStill k label cpu d → MayHold shared (after k cpu) (labels_after k label cpu) (label e.pd) e.target → OrTrusted (labels_after k label cpu) (label d.pd) e.pd
+        by_still (inl now) its_may = by_alone (its_may.alone (ap (slice_get (after k cpu).objects) same ∙ sm) (ap shared same ∙ lone) d now kind (sym same))
         by_still (inr nobody) its_may = absurd (nobody ec acts_ trusted)
 
         by_label : (label e.pd ≡ 0) ⊎ (label e.pd ≢ 0) → OrTrusted (labels_after k label cpu) (label d.pd) e.pd
         by_label (inl none) = inr (labels_old k label cpu e.pd below ∙ none)
         by_label (inr other) = elim ((take ec acts_ trusted).gives e has its other) [
-          | inl was ↦ old (was_sm sm) e was its same
+          | inl was ↦ old (was_sm sm) lone e was its same
           | inr its_may ↦ by_still still its_may
         ]
 
     -- one that a side gave now
-    passed : slice_get k.objects d.target ≡ Some Sm → (e source : Derivation) (ec : ℕ) → Acts k cpu ec → label (pd_of k ec) ≢ 0 → e.pd < length k.objects → Contains k.delegations.list source →
+    passed : slice_get k.objects d.target ≡ Some Sm → shared d.target ≡ false → (e source : Derivation) (ec : ℕ) → Acts k cpu ec → label (pd_of k ec) ≢ 0 → e.pd < length k.objects → Contains k.delegations.list source →
         source.kind ≡ Obj → source.target ≡ d.target → GivesTo k ec source.pd e.pd → OrTrusted (labels_after k label cpu) (label d.pd) e.pd
-    passed sm e source ec acts_ other below has its same gives = by_alone (may.alone sm source has its same)
+    passed sm lone e source ec acts_ other below has its same gives = by_alone (may.alone sm lone source has its same)
       where
         labelled : (label source.pd ≡ label (pd_of k ec)) × OrTrusted label (label (pd_of k ec)) e.pd
         labelled = side_gives k label ec source.pd e.pd t.sound policy (acting_one k cpu ec acts_) other gives
@@ -148,24 +148,24 @@ old_may k label cpu d t policy take still there kind side = record { leads = lea
         by_alone (inl is) = by_receiver is labelled.1
         by_alone (inr none) = absurd (other (sym labelled.0 ∙ none))
 
-    alone : slice_get (after k cpu).objects d.target ≡ Some Sm → (e : Derivation) → Contains (after k cpu).delegations.list e → e.kind ≡ Obj → e.target ≡ d.target →
+    alone : slice_get (after k cpu).objects d.target ≡ Some Sm → shared d.target ≡ false → (e : Derivation) → Contains (after k cpu).delegations.list e → e.kind ≡ Obj → e.target ≡ d.target →
         OrTrusted (labels_after k label cpu) (label d.pd) e.pd
-    alone sm e has its same = by_whence (whence k cpu e t.sound.forest has)
+    alone sm lone e has its same = by_whence (whence k cpu e t.sound.forest has)
       where
         by_whence : Whence k cpu e → OrTrusted (labels_after k label cpu) (label d.pd) e.pd
-        by_whence (Old was) = old (was_sm sm) e was its same
+        by_whence (Old was) = old (was_sm sm) lone e was its same
         by_whence (Newest ec acts_ o first objects) =
             absurd (let below = target_below k cpu d t there kind in let number = first.target in omega (arith, below, number, same))
         by_whence (Child ec acts_ source was within gives) =
             let below : e.pd < length k.objects = slice_get_within k.objects e.pd Pd (receiver_there k ec source.pd e.pd t.sound t.homed (acting_one k cpu ec acts_) gives) in
             let source_kind : source.kind ≡ Obj = sym within.kind ∙ its in
             elim (place (label (pd_of k ec)) 0) [
-              | inl trusted ↦ given sm e ec acts_ trusted below has its same
-              | inr other ↦ passed (was_sm sm) e source ec acts_ other below was source_kind (sym (child_same k cpu e source t was source_kind within) ∙ same) gives
+              | inl trusted ↦ given sm lone e ec acts_ trusted below has its same
+              | inr other ↦ passed (was_sm sm) lone e source ec acts_ other below was source_kind (sym (child_same k cpu e source t was source_kind within) ∙ same) gives
             ]
 
-    waits : (n : ℕ) → (context (after k cpu) n).state ≡ Blocked d.target → OrTrusted (labels_after k label cpu) (label d.pd) (pd_of (after k cpu) n)
-    waits n blocked = by_came (t.came n d.target blocked)
+    waits : shared d.target ≡ false → (n : ℕ) → (context (after k cpu) n).state ≡ Blocked d.target → OrTrusted (labels_after k label cpu) (label d.pd) (pd_of (after k cpu) n)
+    waits lone n blocked = by_came (t.came n d.target blocked)
       where
         kept : IsEc k n → OrTrusted label (label d.pd) (pd_of k n) → OrTrusted (labels_after k label cpu) (label d.pd) (pd_of (after k cpu) n)
         kept m (inl is) = inl (label_kept k label cpu n t.fits.tables m ∙ is)
@@ -175,18 +175,18 @@ old_may k label cpu d t policy take still there kind side = record { leads = lea
         ec y at = context_ec k n t.fits.tables (ap (λ (o : Option EcState). is_some o) at)
 
         by_came : BlockedBy k cpu n d.target → OrTrusted (labels_after k label cpu) (label d.pd) (pd_of (after k cpu) n)
-        by_came (Before y at is) = kept (ec y at) (may.waits n (ap (λ (o : Option EcState). (context_in o).state) at ∙ is))
+        by_came (Before y at is) = kept (ec y at) (may.waits lone n (ap (λ (o : Option EcState). (context_in o).state) at ∙ is))
         by_came (Now acts_ y at asks) =
             let held = asks.names.at.held in
-            kept (ec y at) (subst (OrTrusted label (label d.pd)) held.holder (may.alone (was_sm (t.queue n d.target blocked)) asks.names.at.capability held.there held.kind asks.names.at.leads))
+            kept (ec y at) (subst (OrTrusted label (label d.pd)) held.holder (may.alone (was_sm (t.queue n d.target blocked)) lone asks.names.at.capability held.there held.kind asks.names.at.leads))
 
 -- the first capability to a new object
-newest_may : (k : KernelState) (label : ℕ → ℕ) (cpu ec : ℕ) (d : Derivation) (o : Object) → IsTaken k cpu → IsWithinPolicy k label → label (pd_of k ec) ≢ 0 → Acts k cpu ec →
-    IsFirstCapability k ec o d → slice_get (after k cpu).objects (length k.objects) ≡ Some o → MayHold (after k cpu) (labels_after k label cpu) (label (pd_of k ec)) (length k.objects)
-newest_may k label cpu ec d o t policy side acts_ first is = record {
+newest_may : {shared : ℕ → Bool} (k : KernelState) (label : ℕ → ℕ) (cpu ec : ℕ) (d : Derivation) (o : Object) → IsTaken k cpu → IsWithinPolicy shared k label → label (pd_of k ec) ≢ 0 → Acts k cpu ec →
+    IsFirstCapability k ec o d → slice_get (after k cpu).objects (length k.objects) ≡ Some o → MayHold shared (after k cpu) (labels_after k label cpu) (label (pd_of k ec)) (length k.objects)
+newest_may {shared} k label cpu ec d o t policy side acts_ first is = record {
   leads = subst (IsOwned (after k cpu) (OrTrusted (labels_after k label cpu) (label (pd_of k ec))) (length k.objects)) (sym is) (leads o first);
-  alone = λ sm e has its same. alone e its same (whence k cpu e t.sound.forest has);
-  waits = λ n blocked. absurd (by_came n (t.came n (length k.objects) blocked));
+  alone = λ sm lone e has its same. alone e its same (whence k cpu e t.sound.forest has);
+  waits = λ lone n blocked. absurd (by_came n (t.came n (length k.objects) blocked));
 }
   where
     leads : (o : Object) → IsFirstCapability k ec o d → IsOwned (after k cpu) (OrTrusted (labels_after k label cpu) (label (pd_of k ec))) (length k.objects) (Some o)
@@ -231,12 +231,12 @@ newest_may k label cpu ec d o t policy side acts_ first is = record {
         let below = target_below k cpu asks.names.at.capability t held.there held.kind in
         let leads = asks.names.at.leads in omega (arith, below, leads)
 
-capabilities_after : (k : KernelState) (label : ℕ → ℕ) (cpu : ℕ) → IsTaken k cpu → IsWithinPolicy k label → MayTakeTurn k label cpu → (d : Derivation) → Contains (after k cpu).delegations.list d → d.kind ≡ Obj →
-    labels_after k label cpu d.pd ≢ 0 → MayHold (after k cpu) (labels_after k label cpu) (labels_after k label cpu d.pd) d.target
-capabilities_after k label cpu t policy take d now kind side = by_whence (whence k cpu d t.sound.forest now)
+capabilities_after : {shared : ℕ → Bool} (k : KernelState) (label : ℕ → ℕ) (cpu : ℕ) → IsTaken k cpu → IsWithinPolicy shared k label → MayTakeTurn shared k label cpu → (d : Derivation) → Contains (after k cpu).delegations.list d → d.kind ≡ Obj →
+    labels_after k label cpu d.pd ≢ 0 → MayHold shared (after k cpu) (labels_after k label cpu) (labels_after k label cpu d.pd) d.target
+capabilities_after {shared} k label cpu t policy take d now kind side = by_whence (whence k cpu d t.sound.forest now)
   where
     Its : ℕ → Type 0
-    Its s = MayHold (after k cpu) (labels_after k label cpu) s d.target
+    Its s = MayHold shared (after k cpu) (labels_after k label cpu) s d.target
 
     was_side : d.pd < length k.objects → label d.pd ≢ 0
     was_side below none = side (labels_old k label cpu d.pd below ∙ none)
@@ -252,7 +252,7 @@ capabilities_after k label cpu t policy take d now kind side = by_whence (whence
         let c = first.creator in
         let below : d.pd < length k.objects = subst (λ (n : ℕ). n < length k.objects) c.held (holder_below k cpu c.capability t c.there) in
         let its : labels_after k label cpu d.pd ≡ label (pd_of k ec) = labels_old k label cpu d.pd below ∙ ap label first.pd in
-        subst Its (sym its) (subst (λ (n : ℕ). MayHold (after k cpu) (labels_after k label cpu) (label (pd_of k ec)) n) (sym first.target)
+        subst Its (sym its) (subst (λ (n : ℕ). MayHold shared (after k cpu) (labels_after k label cpu) (label (pd_of k ec)) n) (sym first.target)
         (newest_may k label cpu ec d o t policy (λ none. side (its ∙ none)) acts_ first (newest_object k cpu o objects)))
     by_whence (Child ec acts_ source was within gives) =
         let below : d.pd < length k.objects = slice_get_within k.objects d.pd Pd (receiver_there k ec source.pd d.pd t.sound t.homed (acting_one k cpu ec acts_) gives) in
@@ -273,7 +273,7 @@ capabilities_after k label cpu t policy take d now kind side = by_whence (whence
         by_label below (inr other) =
             let labelled = side_gives k label ec source.pd d.pd t.sound policy (acting_one k cpu ec acts_) other gives in
             let its : label source.pd ≡ labels_after k label cpu d.pd = labelled.0 ∙ sym (own_label labelled.1 (was_side below)) ∙ sym (labels_old k label cpu d.pd below) in
-            subst Its its (subst (λ (n : ℕ). MayHold (after k cpu) (labels_after k label cpu) (label source.pd) n) (sym (child_same k cpu d source t was source_kind within))
+            subst Its its (subst (λ (n : ℕ). MayHold shared (after k cpu) (labels_after k label cpu) (label source.pd) n) (sym (child_same k cpu d source t was source_kind within))
             (old_may k label cpu source t policy take (inr (λ e its_acts. subst (λ (n : ℕ). label (pd_of k n) ≢ 0) (acts_one k cpu ec e acts_ its_acts) other)) was source_kind
             (λ none. other (sym labelled.0 ∙ none))))
 
@@ -288,9 +288,9 @@ local_same : (k : KernelState) (cpu n : ℕ) → IsEc k n → is_local_thread k 
 local_same k cpu n m none =
     ap is_local_in (object_kept k cpu n (Ec m.domain m.cpu m.kind m.event) m.object) ∙ sym (ap is_local_in m.object) ∙ none
 
-edges_after : (k : KernelState) (label : ℕ → ℕ) (cpu : ℕ) → IsTaken k cpu → IsWithinPolicy k label → MayTakeTurn k label cpu → (waiter handler : ℕ) → edge (after k cpu).contexts waiter ≡ Some handler →
+edges_after : {shared : ℕ → Bool} (k : KernelState) (label : ℕ → ℕ) (cpu : ℕ) → IsTaken k cpu → IsWithinPolicy shared k label → MayTakeTurn shared k label cpu → (waiter handler : ℕ) → edge (after k cpu).contexts waiter ≡ Some handler →
     labels_after k label cpu (pd_of (after k cpu) handler) ≢ 0 → MayWait (after k cpu) (labels_after k label cpu) (labels_after k label cpu (pd_of (after k cpu) handler)) waiter
-edges_after k label cpu t policy take waiter handler is side = elim (edge_came k cpu waiter handler t.rightful is) [
+edges_after {shared} k label cpu t policy take waiter handler is side = elim (edge_came k cpu waiter handler t.rightful is) [
   | inl before ↦ kept (edge_ec k waiter handler t.fits.tables before) (local_ec k handler (t.local waiter handler before)) (λ its. policy.edges waiter handler before its)
   | inr now ↦ by_now now.0 now.1
 ]
@@ -341,10 +341,10 @@ served_waits k handler caller mark sound taking serves = by_handler (context_at 
         by_caller (context_at k caller)
         ((sound.kept.served.linked caller handler).waits mark (ap caller_at at ∙ keeps) (ap (λ (q : Option EcState). is_dead (state_at q)) at ∙ ap (λ (t : State). is_dead (Some t)) is))
 
-takes_after : (k : KernelState) (label : ℕ → ℕ) (cpu : ℕ) → IsTaken k cpu → IsWithinPolicy k label → MayTakeTurn k label cpu → (handler caller : ℕ) (mark : Mark) →
+takes_after : {shared : ℕ → Bool} (k : KernelState) (label : ℕ → ℕ) (cpu : ℕ) → IsTaken k cpu → IsWithinPolicy shared k label → MayTakeTurn shared k label cpu → (handler caller : ℕ) (mark : Mark) →
     (context (after k cpu) handler).state ≡ Granting None → (context (after k cpu) handler).caller ≡ Some (caller, mark) → labels_after k label cpu (pd_of (after k cpu) handler) ≢ 0 →
     labels_after k label cpu (pd_of (after k cpu) caller) ≡ labels_after k label cpu (pd_of (after k cpu) handler)
-takes_after k label cpu t policy take handler caller mark state keeps side = by_came (t.taking handler caller mark state keeps)
+takes_after {shared} k label cpu t policy take handler caller mark state keeps side = by_came (t.taking handler caller mark state keeps)
   where
     Goal : Type 0
     Goal = labels_after k label cpu (pd_of (after k cpu) caller) ≡ labels_after k label cpu (pd_of (after k cpu) handler)
@@ -379,9 +379,9 @@ takes_after k label cpu t policy take handler caller mark state keeps side = by_
         kept (context_ec k caller t.fits.tables (ap (λ (o : Option EcState). is_some o) (acting_one k cpu caller acts_).there)) (handler_ec k cpu caller handler t (inl by))
         (λ its. by_label acts_ by its (place (label (pd_of k caller)) 0))
 
-firsts_after : (k : KernelState) (label : ℕ → ℕ) (cpu : ℕ) → IsTaken k cpu → IsWithinPolicy k label → (ec new : ℕ) → (context (after k cpu) ec).state ≡ Granting (Some new) →
+firsts_after : {shared : ℕ → Bool} (k : KernelState) (label : ℕ → ℕ) (cpu : ℕ) → IsTaken k cpu → IsWithinPolicy shared k label → (ec new : ℕ) → (context (after k cpu) ec).state ≡ Granting (Some new) →
     labels_after k label cpu (pd_of (after k cpu) ec) ≢ 0 → labels_after k label cpu new ≡ labels_after k label cpu (pd_of (after k cpu) ec)
-firsts_after k label cpu t policy ec new is side = elim (came k cpu ec (Granting (Some new)) tt is) [
+firsts_after {shared} k label cpu t policy ec new is side = elim (came k cpu ec (Granting (Some new)) tt is) [
   | inl before ↦
       let its = label_kept k label cpu ec t.fits.tables (context_ec k ec t.fits.tables (there (context_at k ec) before)) in
       labels_old k label cpu new (slice_get_within k.objects new Pd (t.homed.opened ec new before)) ∙ policy.firsts ec new before (λ none. side (its ∙ none)) ∙ sym its
@@ -394,9 +394,9 @@ firsts_after k label cpu t policy ec new is side = elim (came k cpu ec (Granting
     there None at = absurd (cc)
     there (Some x) at = refl
 
-queues_after : (k : KernelState) (label : ℕ → ℕ) (cpu n m sm : ℕ) → IsTaken k cpu → IsWithinPolicy k label → (context (after k cpu) n).state ≡ Blocked sm → (context (after k cpu) m).state ≡ Blocked sm →
+queues_after : {shared : ℕ → Bool} (k : KernelState) (label : ℕ → ℕ) (cpu n m sm : ℕ) → IsTaken k cpu → IsWithinPolicy shared k label → shared sm ≡ false → (context (after k cpu) n).state ≡ Blocked sm → (context (after k cpu) m).state ≡ Blocked sm →
     labels_after k label cpu (pd_of (after k cpu) n) ≢ 0 → OrTrusted (labels_after k label cpu) (labels_after k label cpu (pd_of (after k cpu) n)) (pd_of (after k cpu) m)
-queues_after k label cpu n m sm t policy first second side = by_both (t.came n sm first) (t.came m sm second)
+queues_after {shared} k label cpu n m sm t policy lone first second side = by_both (t.came n sm first) (t.came m sm second)
   where
     ec : (e : ℕ) (y : EcState) → context_at k e ≡ Some y → IsEc k e
     ec e y at = context_ec k e t.fits.tables (ap (λ (o : Option EcState). is_some o) at)
@@ -415,7 +415,7 @@ queues_after k label cpu n m sm t policy first second side = by_both (t.came n s
     asked : (e other : ℕ) → label (pd_of k e) ≢ 0 → AsksDown k e sm → (context k other).state ≡ Blocked sm → OrTrusted label (label (pd_of k e)) (pd_of k other)
     asked e other own asks waits =
         let at = asks.names.at in
-        (held_may k label e at.capability policy own at.held.there at.held.kind at.held.holder).waits other (waits ∙ ap (λ (s : ℕ). Blocked s) (sym at.leads))
+        (held_may k label e at.capability policy own at.held.there at.held.kind at.held.holder).waits (ap shared at.leads ∙ lone) other (waits ∙ ap (λ (s : ℕ). Blocked s) (sym at.leads))
 
     turned_round : label (pd_of k n) ≢ 0 → (label (pd_of k m) ≡ 0) ⊎ (label (pd_of k m) ≢ 0) → AsksDown k m sm → (context k n).state ≡ Blocked sm → OrTrusted label (label (pd_of k n)) (pd_of k m)
     turned_round own (inl none) asks waits = inr none
@@ -426,28 +426,28 @@ queues_after k label cpu n m sm t policy first second side = by_both (t.came n s
         by_asked (inr none) = absurd (own none)
 
     by_both : BlockedBy k cpu n sm → BlockedBy k cpu m sm → OrTrusted (labels_after k label cpu) (labels_after k label cpu (pd_of (after k cpu) n)) (pd_of (after k cpu) m)
-    by_both (Before y at is) (Before z there also) = kept (ec n y at) (ec m z there) (policy.queues n m sm (was n y at is) (was m z there also) (some (ec n y at)))
+    by_both (Before y at is) (Before z there also) = kept (ec n y at) (ec m z there) (policy.queues n m sm lone (was n y at is) (was m z there also) (some (ec n y at)))
     by_both (Before y at is) (Now acts_ z there asks) =
         kept (ec n y at) (ec m z there) (turned_round (some (ec n y at)) (place (label (pd_of k m)) 0) asks (was n y at is))
     by_both (Now acts_ y at asks) (Before z there also) = kept (ec n y at) (ec m z there) (asked n m (some (ec n y at)) asks (was m z there also))
     by_both (Now acts_ y at asks) (Now also_ z there too) = inl (ap (λ (e : ℕ). labels_after k label cpu (pd_of (after k cpu) e)) (acts_one k cpu m n also_ acts_))
 
-pub policy_after : (k : KernelState) (label : ℕ → ℕ) (cpu : ℕ) → IsTaken k cpu → IsWithinPolicy k label → MayTakeTurn k label cpu → IsWithinPolicy (after k cpu) (labels_after k label cpu)
-policy_after k label cpu t policy take = record {
+pub policy_after : {shared : ℕ → Bool} (k : KernelState) (label : ℕ → ℕ) (cpu : ℕ) → IsTaken k cpu → IsWithinPolicy shared k label → MayTakeTurn shared k label cpu → IsWithinPolicy shared (after k cpu) (labels_after k label cpu)
+policy_after {shared} k label cpu t policy take = record {
   capabilities = capabilities_after k label cpu t policy take;
   edges = edges_after k label cpu t policy take;
   takes = takes_after k label cpu t policy take;
   firsts = firsts_after k label cpu t policy;
-  queues = λ n m sm first second side. queues_after k label cpu n m sm t policy first second side;
+  queues = λ n m sm lone first second side. queues_after k label cpu n m sm t policy lone first second side;
 }
 
 -- A SIDE TOUCHES NOTHING OF ANOTHER SIDE
 
 -- whoever leads along edges to one of a side is of the side, or a client that is trusted
-led_label : (k : KernelState) (label : ℕ → ℕ) (ec n edges : ℕ) → HasLocalEdges k → IsWithinPolicy k label → label (pd_of k ec) ≢ 0 → after_edges edges (edge k.contexts) n ≡ Some ec →
+led_label : {shared : ℕ → Bool} (k : KernelState) (label : ℕ → ℕ) (ec n edges : ℕ) → HasLocalEdges k → IsWithinPolicy shared k label → label (pd_of k ec) ≢ 0 → after_edges edges (edge k.contexts) n ≡ Some ec →
     MayWait k label (label (pd_of k ec)) n
-led_label k label ec n zero local policy side is = inl (ap (λ (m : ℕ). label (pd_of k m)) (same_Some n ec is))
-led_label k label ec n (suc edges) local policy side is = by_edge (edge k.contexts n) refl is (λ h leads. led_label k label ec h edges local policy side leads)
+led_label {shared} k label ec n zero local policy side is = inl (ap (λ (m : ℕ). label (pd_of k m)) (same_Some n ec is))
+led_label {shared} k label ec n (suc edges) local policy side is = by_edge (edge k.contexts n) refl is (λ h leads. led_label k label ec h edges local policy side leads)
   where
     -- a handler is no client
     handles : (h : ℕ) → IsOf k.objects is_local h → is_local_thread k h ≡ false → ⊥
@@ -472,9 +472,9 @@ led_label k label ec n (suc edges) local policy side is = by_edge (edge k.contex
     by_edge None at leads later = absurd (cc)
     by_edge (Some h) at leads later = by_handler h at (later h leads)
 
-pub policy_clear : (k : KernelState) (label : ℕ → ℕ) (ec side : ℕ) → IsSound k → HasLocalEdges k → IsWithinPolicy k label → IsActor k.contexts ec → label (pd_of k ec) ≢ 0 → side ≢ 0 → side ≢ label (pd_of k ec) →
+pub policy_clear : {shared : ℕ → Bool} (k : KernelState) (label : ℕ → ℕ) (ec side : ℕ) → IsSound k → HasLocalEdges k → IsWithinPolicy shared k label → IsActor k.contexts ec → label (pd_of k ec) ≢ 0 → side ≢ 0 → side ≢ label (pd_of k ec) →
     IsClear k (Labelled label side) ec
-policy_clear k label ec side sound local policy actor own some other = record {
+policy_clear {shared} k label ec side sound local policy actor own some other = record {
   away = record {
     out = λ same. other (sym same);
     calls = λ handler by theirs. apart (pd_of k handler) (member_pd k (OrTrusted label (label (pd_of k ec))) handler (called_by k label ec handler policy own by)) (member_pd k (Labelled label side) handler theirs);

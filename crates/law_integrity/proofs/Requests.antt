@@ -1,4 +1,4 @@
--- What only a hypercall does is done by one that asks for it.
+-- What only a hypercall does is done by a context that asks for it.
 use Rattle.std.proofs.Common.{◌≡◌, ℕ, ap, ◌∙◌, refl}
 use Rattle.std.specs.Prelude.{◌==◌, ◌&&◌, Bool, true, false, Option, Some, None, Result, Ok, Err}
 use Rattle.std.proofs.lemmas.Bool.{and_parts, eqb-true}

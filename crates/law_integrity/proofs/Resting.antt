@@ -1,4 +1,4 @@
--- Two closed sets after a turn: who acts is of one of them, and whoever is of neither stays idle.
+-- Two closed sets after a turn: the context that acts is of one of them, and each context of neither stays idle.
 use Rattle.std.proofs.Common.{◌≡◌, ℕ, ◌≤◌, ◌⊎◌, List, [], ◌∷◌, ◌++◌, length, refl, sym, ap, ◌∙◌, subst, inl, inr, arith}
 use Rattle.std.specs.Prelude.{true, false, is_some, slice_get, Option, Some, None, option_map}
 use Rattle.std.proofs.lemmas.Option.{same_Some, slice_get_within}
@@ -41,7 +41,7 @@ use Rattle.law_integrity.proofs.Edges.{local_edges, reached_rightful}
 use Rattle.law_integrity.proofs.Passing.{due_in, turned_by_time}
 use Rattle.law_integrity.proofs.Homes.{AreHomed, reached_homed, receiver_there}
 
--- WHO ACTS
+-- WHICH CONTEXT ACTS
 
 idle_acts : {A : Type 0} (k : KernelState) (S T : ℕ → Type 0) (n : ℕ) (s : State) → is_free (Some s) ≡ false → is_blocked (Some s) ≡ false → IsIdle k S T n s → A
 idle_acts k S T n Parked awake free idle = absurd (cc)
@@ -216,7 +216,7 @@ unheld k S cpu sm a homed there none h = elim (holds_before k S cpu up_right sm 
   | inr later ↦ absurd (let below = slice_get_within k.objects sm Sm there in omega (arith, below, later))
 ]
 
--- who is blocked without a deadline has none after the turn, and no alarm moves to another semaphore
+-- a context that is blocked without a deadline has none after the turn, and no alarm moves to another semaphore
 record AreQuiet (k : KernelState) (cpu n : ℕ) : Type 0 where
   still : is_blocked (option_map (λ x. x.state) (context_at k n)) ≡ true → deadline_of k.times n ≡ None → deadline_of (after k cpu).times n ≡ None
   alarms : (alarm : ℕ) (a : AlarmState) → slice_get (after k cpu).times.alarms alarm ≡ Some a → (b : AlarmState) × (slice_get k.times.alarms alarm ≡ Some b) × (b.alarm.sm ≡ a.alarm.sm)
@@ -239,7 +239,7 @@ rest_later : (k : KernelState) (S T : ℕ → Type 0) (cpu n : ℕ) (s : State) 
 rest_later k S T cpu n s a b homed quiet at (inl idle) = inl (idle_later k S T cpu n s a b homed quiet at idle)
 rest_later k S T cpu n s a b homed quiet at (inr m) = inr (either_later k S T cpu n m)
 
--- so it is in a turn of one who acts, in one that comes by itself, and where nothing happens
+-- so it is in a turn of a context that acts, in a turn that comes by itself, and where nothing happens
 acting_quiet : (k : KernelState) (cpu ec sc n : ℕ) → IsActor k.contexts ec → IsByRight k (after k cpu) cpu ec sc → AreQuiet k cpu n
 acting_quiet k cpu ec sc n actor right = record {
   still = λ blocked none. by_deadline blocked none (right.deadlines n);

@@ -87,7 +87,7 @@ ended k ec item (Given children) words follows is found =
 ended k ec item (Skipped skip) words follows is found = (found.0, found.1, found.2, subst (IsFlagged found.0) is (deed_flagged k ec found.0 found.1))
 ended k ec item (Translated word) words follows is found = (found.0, found.1, found.2, subst (IsFlagged found.0) is (deed_flagged k ec found.0 found.1))
 
--- a handler keeps whoever waits for it
+-- a handler keeps the context that waits for it
 keeps_caller : (k : KernelState) (ec handler : ℕ) (came : Mark) → AreServed (is_local_thread k) k.contexts → deed k ec ≡ deeds.Aborts handler came → (context k ec).state ≡ Calling handler →
     ServesCaller k handler ec came
 unfolding deed

@@ -71,7 +71,7 @@ candidate_runs k cpu c edges candidate =
       able = subst (λ (n : ℕ). acts k.contexts n ≡ true) (sym is.actor) is.able;
     }
 
--- WHO MAY RUN IS A CANDIDATE
+-- WHAT MAY RUN IS A CANDIDATE
 
 front_in : (o : Option Candidate) (cs : List Candidate) (c : Candidate) → IsIn cs c → IsIn (in_front o cs) c
 front_in None cs c there = there

@@ -1,4 +1,4 @@
--- The bytes of a frame that who acts doesn't reach influence nothing.
+-- The bytes of a frame that the context that acts doesn't reach influence nothing.
 use Rattle.std.proofs.Common.{◌≡◌, ℕ, ◌/◌, ◌%◌, ◌-◌, ◌==◌, zero, suc, List, [], ◌∷◌, ◌++◌, refl, sym, ap, ap₂, ◌∙◌, subst}
 use Rattle.std.specs.Prelude.{Bool, true, false, ◌≢◌, IsSome, is_some, slice_get, slice_set, option_map, option_and_then, Option, Some, None, if◌then◌else◌}
 use mathlib.Core.Path.{fun_ext}

@@ -1,6 +1,6 @@
 -- Sides along turns: the policy holds on, a turn of a side leaves another side, and what a side comes to reach it was given.
 use Rattle.std.proofs.Common.{◌≡◌, ◌<◌, ℕ, ◌⊎◌, List, [], ◌∷◌, ◌++◌, length, refl, sym, ap, ◌∙◌, subst, inl, inr, arith}
-use Rattle.std.specs.Prelude.{◌≢◌, true, Contains, is_some, Option}
+use Rattle.std.specs.Prelude.{◌≢◌, Bool, true, false, Contains, is_some, Option}
 use Rattle.std.proofs.lemmas.Option.{slice_get_within}
 use Rattle.nova_objects.specs.declared.object.Object.TheVariants.{Pd}
 use Rattle.nova_range.specs.Rights.{allows, execute_right, read_right, write_right}
@@ -8,7 +8,7 @@ use Rattle.nova_range.specs.declared.range.Kind.TheVariants.{Mem, Obj}
 use Rattle.nova_model.specs.Boot.{Scenario, boot}
 use Rattle.nova_model.specs.Forest.{IsWithin}
 use Rattle.nova_model.specs.Runs.{after, run}
-use Rattle.nova_model.specs.State.{KernelState, context_at, deadline_of, pd_in, pd_of}
+use Rattle.nova_model.specs.State.{KernelState, context, context_at, deadline_of, pd_in, pd_of}
 use Rattle.nova_model.specs.declared.context.EcState.{EcState}
 use Rattle.nova_model.specs.declared.context.State.TheVariants.{Blocked}
 use Rattle.nova_model.specs.declared.delegation.Derivation.{Derivation}
@@ -32,16 +32,16 @@ use Rattle.law_integrity.proofs.Secrets.{turn_same}
 
 -- THE POLICY
 
-pub within_along : (s : Scenario) (before turns : List ℕ) (label : ℕ → ℕ) → IsWithinPolicy (run (boot s) before) label → MayTakeTurns (run (boot s) before) label turns →
-    IsWithinPolicy (run (run (boot s) before) turns) (labels (run (boot s) before) label turns)
-within_along s before [] label policy take = policy
-within_along s before (cpu ∷ turns) label policy take =
+pub within_along : {shared : ℕ → Bool} (s : Scenario) (before turns : List ℕ) (label : ℕ → ℕ) → IsWithinPolicy shared (run (boot s) before) label → MayTakeTurns shared (run (boot s) before) label turns →
+    IsWithinPolicy shared (run (run (boot s) before) turns) (labels (run (boot s) before) label turns)
+within_along {shared} s before [] label policy take = policy
+within_along {shared} s before (cpu ∷ turns) label policy take =
     let k = run (boot s) before in
     let next : run (boot s) (before ++ cpu ∷ []) ≡ after k cpu = run_append (boot s) before (cpu ∷ []) in
-    subst (λ (l : KernelState). IsWithinPolicy (run l turns) (labels l (labels_after k label cpu) turns)) next
+    subst (λ (l : KernelState). IsWithinPolicy shared (run l turns) (labels l (labels_after k label cpu) turns)) next
     (within_along s (before ++ cpu ∷ []) turns (labels_after k label cpu)
-    (subst (λ (l : KernelState). IsWithinPolicy l (labels_after k label cpu)) (sym next) (policy_after k label cpu (turn_taken s before cpu) policy take.0))
-    (subst (λ (l : KernelState). MayTakeTurns l (labels_after k label cpu) turns) (sym next) take.1))
+    (subst (λ (l : KernelState). IsWithinPolicy shared l (labels_after k label cpu)) (sym next) (policy_after k label cpu (turn_taken s before cpu) policy take.0))
+    (subst (λ (l : KernelState). MayTakeTurns shared l (labels_after k label cpu) turns) (sym next) take.1))
 
 -- WHAT A TURN OF A SIDE LEAVES OF ANOTHER
 
@@ -51,18 +51,18 @@ acts_for k label cpu ec t acts_ =
     let m = context_ec k ec t.fits.tables (ap (λ (o : Option EcState). is_some o) (acting_one k cpu ec acts_).there) in
     record { domain = m.domain; cpu = m.cpu; kind = m.kind; event = m.event; object = m.object; of = ap label (sym (ap pd_in m.object)) }
 
-pub side_leaves : (s : Scenario) (turns : List ℕ) (label : ℕ → ℕ) (cpu ec side : ℕ) → IsWithinPolicy (run (boot s) turns) label → Acts (run (boot s) turns) cpu ec →
+pub side_leaves : {shared : ℕ → Bool} (s : Scenario) (turns : List ℕ) (label : ℕ → ℕ) (cpu ec side : ℕ) → IsWithinPolicy shared (run (boot s) turns) label → Acts (run (boot s) turns) cpu ec →
     label (pd_of (run (boot s) turns) ec) ≢ 0 → side ≢ 0 → side ≢ label (pd_of (run (boot s) turns) ec) →
     LeavesTo (run (boot s) turns) (after (run (boot s) turns) cpu) (Labelled label (label (pd_of (run (boot s) turns) ec))) (Labelled label side)
-side_leaves s turns label cpu ec side policy acts_ own some other =
+side_leaves {shared} s turns label cpu ec side policy acts_ own some other =
     let k = run (boot s) turns in
     leaves_clear s turns (Labelled label side) (Labelled label (label (pd_of k ec))) cpu ec (policy_clear k label ec side (reached_sound s turns) (turn_taken s turns cpu).local policy (acting_one k cpu ec acts_) own some other) acts_
     (acts_for k label cpu ec (turn_taken s turns cpu) acts_)
 
-pub side_stays : (s : Scenario) (turns : List ℕ) (label : ℕ → ℕ) (cpu ec side n : ℕ) → IsWithinPolicy (run (boot s) turns) label → Acts (run (boot s) turns) cpu ec →
-    label (pd_of (run (boot s) turns) ec) ≢ 0 → side ≢ 0 → side ≢ label (pd_of (run (boot s) turns) ec) → IsMember (run (boot s) turns) (Labelled label side) n →
+pub side_stays : {shared : ℕ → Bool} (s : Scenario) (turns : List ℕ) (label : ℕ → ℕ) (cpu ec side n : ℕ) → IsWithinPolicy shared (run (boot s) turns) label → Acts (run (boot s) turns) cpu ec →
+    label (pd_of (run (boot s) turns) ec) ≢ 0 → side ≢ 0 → side ≢ label (pd_of (run (boot s) turns) ec) → IsMember (run (boot s) turns) (Labelled label side) n → ((sm : ℕ) → (context (run (boot s) turns) n).state ≡ Blocked sm → shared sm ≡ false) →
     (context_at (after (run (boot s) turns) cpu) n ≡ context_at (run (boot s) turns) n) × (deadline_of (after (run (boot s) turns) cpu).times n ≡ deadline_of (run (boot s) turns).times n)
-side_stays s turns label cpu ec side n policy acts_ own some other m = (by_left (leaves.contexts n m), by_deadline (leaves.deadlines n m))
+side_stays {shared} s turns label cpu ec side n policy acts_ own some other m lone = (by_left (leaves.contexts n m), by_deadline (leaves.deadlines n m))
   where
     k : KernelState
     k = run (boot s) turns
@@ -74,11 +74,11 @@ side_stays s turns label cpu ec side n policy acts_ own some other m = (by_left 
     apart (inl same) = other (sym (member_pd k (Labelled label side) n m) ∙ same)
     apart (inr none) = some (sym (member_pd k (Labelled label side) n m) ∙ none)
 
-    -- nobody wakes it
+    -- nobody wakes it, as it waits at no shared semaphore
     unwoken : IsWoken k (Labelled label (label (pd_of k ec))) n → ⊥
     unwoken woken =
         let may = policy.capabilities woken.may.capability woken.may.there woken.may.kind (λ none. own (sym woken.may.of ∙ none)) in
-        apart (subst (λ (l : ℕ). OrTrusted label l (pd_of k n)) woken.may.of (may.waits n (woken.blocked ∙ ap (λ (sm : ℕ). Blocked sm) (sym woken.may.leads))))
+        apart (subst (λ (l : ℕ). OrTrusted label l (pd_of k n)) woken.may.of (may.waits (ap shared woken.may.leads ∙ lone woken.sm woken.blocked) n (woken.blocked ∙ ap (λ (sm : ℕ). Blocked sm) (sym woken.may.leads))))
 
     by_left : StaysOrWakes k (Labelled label (label (pd_of k ec))) n (context_at k n) (context_at (after k cpu) n) → context_at (after k cpu) n ≡ context_at k n
     by_left (Stays same) = same
@@ -113,9 +113,9 @@ data Provenance (k : KernelState) (label : ℕ → ℕ) (cpu side : ℕ) (d : De
   Passes : (source : Derivation) → Contains k.delegations.list source → label source.pd ≡ side → IsWithin d source → Provenance k label cpu side d
   Gives : (ec : ℕ) → Acts k cpu ec → label (pd_of k ec) ≡ 0 → (source : Derivation) → Contains k.delegations.list source → source.pd ≡ pd_of k ec → IsWithin d source → Provenance k label cpu side d
 
-provenance : (k : KernelState) (label : ℕ → ℕ) (cpu side : ℕ) (d : Derivation) → IsTaken k cpu → IsWithinPolicy k label → side ≢ 0 → Contains (after k cpu).delegations.list d →
+provenance : {shared : ℕ → Bool} (k : KernelState) (label : ℕ → ℕ) (cpu side : ℕ) (d : Derivation) → IsTaken k cpu → IsWithinPolicy shared k label → side ≢ 0 → Contains (after k cpu).delegations.list d →
     labels_after k label cpu d.pd ≡ side → Provenance k label cpu side d
-provenance k label cpu side d t policy some now of = by_whence (whence k cpu d t.sound.forest now)
+provenance {shared} k label cpu side d t policy some now of = by_whence (whence k cpu d t.sound.forest now)
   where
     was : d.pd < length k.objects → label d.pd ≡ side
     was below = sym (labels_old k label cpu d.pd below) ∙ of
@@ -180,9 +180,9 @@ holds_within k cpu S right object d source t there of within kind leads allowed 
 abbrev Reached : KernelState → (ℕ → ℕ) → ℕ → ℕ → ℕ → ℕ → Type 0
 Reached k label cpu side right frame = Reach k (Labelled label side) right frame ⊎ ((ec : ℕ) × Acts k cpu ec × (label (pd_of k ec) ≡ 0) × Reach k (λ n. n ≡ pd_of k ec) right frame)
 
-reach_before : (k : KernelState) (label : ℕ → ℕ) (cpu side right frame : ℕ) → IsTaken k cpu → IsWithinPolicy k label → side ≢ 0 → Reach (after k cpu) (Labelled (labels_after k label cpu) side) right frame →
+reach_before : {shared : ℕ → Bool} (k : KernelState) (label : ℕ → ℕ) (cpu side right frame : ℕ) → IsTaken k cpu → IsWithinPolicy shared k label → side ≢ 0 → Reach (after k cpu) (Labelled (labels_after k label cpu) side) right frame →
     Reached k label cpu side right frame
-reach_before k label cpu side right frame t policy some r = by_source (provenance k label cpu side r.derivation t policy some r.there r.of)
+reach_before {shared} k label cpu side right frame t policy some r = by_source (provenance k label cpu side r.derivation t policy some r.there r.of)
   where
     by_source : Provenance k label cpu side r.derivation → Reached k label cpu side right frame
     by_source (Was there of) = inl (record { derivation = r.derivation; there = there; of = of; kind = r.kind; leads = r.leads; allowed = r.allowed })
@@ -196,9 +196,9 @@ Held k label cpu side right object =
     Holds k (Labelled label side) right object
     ⊎ (((ec : ℕ) × Acts k cpu ec × (label (pd_of k ec) ≡ 0) × Holds k (λ n. n ≡ pd_of k ec) right object) ⊎ ((ec : ℕ) × Acts k cpu ec × (label (pd_of k ec) ≡ side) × (object ≡ length k.objects)))
 
-hold_before : (k : KernelState) (label : ℕ → ℕ) (cpu side right object : ℕ) → IsTaken k cpu → IsWithinPolicy k label → side ≢ 0 → Holds (after k cpu) (Labelled (labels_after k label cpu) side) right object →
+hold_before : {shared : ℕ → Bool} (k : KernelState) (label : ℕ → ℕ) (cpu side right object : ℕ) → IsTaken k cpu → IsWithinPolicy shared k label → side ≢ 0 → Holds (after k cpu) (Labelled (labels_after k label cpu) side) right object →
     Held k label cpu side right object
-hold_before k label cpu side right object t policy some h = by_source (provenance k label cpu side h.capability t policy some h.there h.of)
+hold_before {shared} k label cpu side right object t policy some h = by_source (provenance k label cpu side h.capability t policy some h.there h.of)
   where
     by_source : Provenance k label cpu side h.capability → Held k label cpu side right object
     by_source (Was there of) = inl (record { capability = h.capability; there = there; of = of; kind = h.kind; leads = h.leads; allowed = h.allowed })
@@ -215,17 +215,17 @@ earlier k label cpu side turns m =
 abbrev first_turn : (k : KernelState) (label : ℕ → ℕ) (cpu side ec : ℕ) (turns : List ℕ) → Acts k cpu ec → label (pd_of k ec) ≡ side → IsTurnOfLabel k label (cpu ∷ turns) side
 first_turn k label cpu side ec turns acts_ of = record { before = []; cpu = cpu; later = turns; whole = refl; actor = ec; acts = acts_; of = of }
 
-pub side_reaches : (s : Scenario) (before turns : List ℕ) (label : ℕ → ℕ) (side right frame : ℕ) → IsWithinPolicy (run (boot s) before) label → MayTakeTurns (run (boot s) before) label turns → side ≢ 0 →
+pub side_reaches : {shared : ℕ → Bool} (s : Scenario) (before turns : List ℕ) (label : ℕ → ℕ) (side right frame : ℕ) → IsWithinPolicy shared (run (boot s) before) label → MayTakeTurns shared (run (boot s) before) label turns → side ≢ 0 →
     Reach (run (run (boot s) before) turns) (Labelled (labels (run (boot s) before) label turns) side) right frame →
     ReachesSince (run (boot s) before) label turns side right frame ⊎ IsGivenFrame (run (boot s) before) label turns side right frame
-side_reaches s before [] label side right frame policy take some r = inl r
-side_reaches s before (cpu ∷ turns) label side right frame policy take some r =
+side_reaches {shared} s before [] label side right frame policy take some r = inl r
+side_reaches {shared} s before (cpu ∷ turns) label side right frame policy take some r =
     let k = run (boot s) before in
     let next : run (boot s) (before ++ cpu ∷ []) ≡ after k cpu = run_append (boot s) before (cpu ∷ []) in
     by_later k (subst (λ (l : KernelState). ReachesSince l (labels_after k label cpu) turns side right frame ⊎ IsGivenFrame l (labels_after k label cpu) turns side right frame) next
     (side_reaches s (before ++ cpu ∷ []) turns (labels_after k label cpu) side right frame
-    (subst (λ (l : KernelState). IsWithinPolicy l (labels_after k label cpu)) (sym next) (policy_after k label cpu (turn_taken s before cpu) policy take.0))
-    (subst (λ (l : KernelState). MayTakeTurns l (labels_after k label cpu) turns) (sym next) take.1) some
+    (subst (λ (l : KernelState). IsWithinPolicy shared l (labels_after k label cpu)) (sym next) (policy_after k label cpu (turn_taken s before cpu) policy take.0))
+    (subst (λ (l : KernelState). MayTakeTurns shared l (labels_after k label cpu) turns) (sym next) take.1) some
     (subst (λ (l : KernelState). Reach (run l turns) (Labelled (labels l (labels_after k label cpu) turns) side) right frame) (sym next) r)))
     (λ now. reach_before k label cpu side right frame (turn_taken s before cpu) policy some now)
   where
@@ -246,18 +246,18 @@ side_reaches s before (cpu ∷ turns) label side right frame policy take some r 
         by_turn k since (reach_decided k label side right frame) (step (first (after k cpu) (labels_after k label cpu) turns since))
     by_later k (inr given) step = inr (record { turn = earlier k label cpu 0 turns given.turn; unreached = given.unreached; since = given.since; own = given.own })
 
-pub side_holds : (s : Scenario) (before turns : List ℕ) (label : ℕ → ℕ) (side right object : ℕ) → IsWithinPolicy (run (boot s) before) label → MayTakeTurns (run (boot s) before) label turns → side ≢ 0 →
+pub side_holds : {shared : ℕ → Bool} (s : Scenario) (before turns : List ℕ) (label : ℕ → ℕ) (side right object : ℕ) → IsWithinPolicy shared (run (boot s) before) label → MayTakeTurns shared (run (boot s) before) label turns → side ≢ 0 →
     Holds (run (run (boot s) before) turns) (Labelled (labels (run (boot s) before) label turns) side) right object →
     HoldsSince (run (boot s) before) label turns side right object
     ⊎ (IsGivenObject (run (boot s) before) label turns side right object ⊎ IsMadeBySide (run (boot s) before) label turns side right object)
-side_holds s before [] label side right object policy take some h = inl h
-side_holds s before (cpu ∷ turns) label side right object policy take some h =
+side_holds {shared} s before [] label side right object policy take some h = inl h
+side_holds {shared} s before (cpu ∷ turns) label side right object policy take some h =
     let k = run (boot s) before in
     let next : run (boot s) (before ++ cpu ∷ []) ≡ after k cpu = run_append (boot s) before (cpu ∷ []) in
     by_later k (subst (λ (l : KernelState). Later l (labels_after k label cpu) turns) next
     (side_holds s (before ++ cpu ∷ []) turns (labels_after k label cpu) side right object
-    (subst (λ (l : KernelState). IsWithinPolicy l (labels_after k label cpu)) (sym next) (policy_after k label cpu (turn_taken s before cpu) policy take.0))
-    (subst (λ (l : KernelState). MayTakeTurns l (labels_after k label cpu) turns) (sym next) take.1) some
+    (subst (λ (l : KernelState). IsWithinPolicy shared l (labels_after k label cpu)) (sym next) (policy_after k label cpu (turn_taken s before cpu) policy take.0))
+    (subst (λ (l : KernelState). MayTakeTurns shared l (labels_after k label cpu) turns) (sym next) take.1) some
     (subst (λ (l : KernelState). Holds (run l turns) (Labelled (labels l (labels_after k label cpu) turns) side) right object) (sym next) h)))
     (λ now. hold_before k label cpu side right object (turn_taken s before cpu) policy some now)
   where

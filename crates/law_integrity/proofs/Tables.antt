@@ -46,7 +46,7 @@ use Rattle.law_integrity.proofs.Contexts.{IsRight, context_by, words_after}
 use Rattle.law_integrity.proofs.Entries.{change_each, change_length, get_set, join_each, put_each, put_length, same_length}
 use Rattle.law_integrity.proofs.Messages.{message_by}
 
--- one that joins
+-- a context that joins
 is_new : (k : KernelState) (ec n : ℕ) (m : NewObject) → made_by (deed k ec) ≡ Some m → n ≡ length k.objects → IsNew k ec n
 is_new k ec n m made next = record { next = next; creator = creator_of k ec (deed k ec) m (deed_allowed k ec) made }
 
@@ -119,7 +119,7 @@ born_count (Sc ec cpu priority quantum) = tt
 born_count (Pt ec mtd ip) = tt
 born_count Sm = tt
 
--- one that makes an object stirs nobody
+-- a deed that makes an object stirs none
 unstirred : (k : KernelState) (ec g : ℕ) (d : Deed) (m : NewObject) → made_by d ≡ Some m → is_stirred k ec d g ≡ false
 unfolding input_of
 unstirred k ec g (deeds.Makes call target made) m is = nobody (ec == g)
@@ -209,7 +209,7 @@ counts_right k new cpu ec n state counted_ = by_old (stirs_of k n) refl counted_
 abbrev of_transfer : ℕ → Transfer → Option (ℕ × Transfer)
 of_transfer n t = Some (n, t)
 
--- what is right for the one who acts is right for the one of this number
+-- what is right for the context that acts is right for the context of this number
 at_actor : (k : KernelState) (ec n : ℕ) (new t : Transfer) → TransferBy k ec ec (Some new) → of_transfer ec new ≡ of_transfer n t → TransferBy k ec n (Some t)
 at_actor k ec n new t right is = subst (λ (q : ℕ × Transfer). TransferBy k ec q.0 (Some q.1)) (same_Some (ec, new) (n, t) is) right
 
@@ -273,7 +273,7 @@ deadline_each P ds (Some (w, d)) n old new = get_set (λ (o : Option (Option Dea
 abbrev of_deadline : ℕ → Option Deadline → Option (ℕ × Option Deadline)
 of_deadline n d = Some (n, d)
 
--- what is right for the one whose deadline it is is right for the one of this number
+-- what is right for the context that has the deadline is right for the context of this number
 at_deadline : (k : KernelState) (ec to n : ℕ) (d x : Option Deadline) → DeadlineBy k ec to d → of_deadline to d ≡ of_deadline n x → DeadlineBy k ec n x
 at_deadline k ec to n d x right is = subst (λ (q : ℕ × Option Deadline). DeadlineBy k ec q.0 q.1) (same_Some (to, d) (n, x) is) right
 

@@ -117,7 +117,7 @@ effect_same k g r ec d looks =
     other : KernelState
     other = with_registers k g r
 
--- whom it stirs
+-- which virtual CPUs it stirs
 pub stirs_same : (k : KernelState) (cs : Contexts) (ms : Words) (ec : ℕ) (d : Deed) → words_in ms ec ≡ message k ec → LooksSame k cs ms ec d → (n : ℕ) → is_stirred (over k cs ms) ec d n ≡ is_stirred k ec d n
 unfolding input_of
 stirs_same k cs ms ec d own looks n = by_test (ec == n) d looks
@@ -164,7 +164,7 @@ turned_differ k cpu g r t u same =
       rest = ap (turned (with_registers k g r) cpu) same ∙ ap (λ (cs : Contexts). record (turned k cpu t) { contexts = cs }) set.same;
     }
 
--- the one who acts is another, whose registers are the same, or tells the same of both
+-- the context that acts is another, whose registers are the same, or tells the same of both
 pub tells_alike : (k : KernelState) (cpu g : ℕ) (r : Registers) → IsUntold k (with_registers k g r) cpu g → (ec : ℕ) → Acts k cpu ec → TellsAlike k (registers_set k.contexts g r) ec (context k ec).state
 tells_alike k cpu g r untold ec acts_ = by_number (ec == g) refl
   where

@@ -64,7 +64,7 @@ joined_set ms m ws (Some o) = more_set ms m ws o
 words_other : (ms : Words) (m n : ℕ) (ws : List ℕ) → n ≢ m → words_in (words_set ms m ws) n ≡ words_in ms n
 words_other ms m n ws other = ap (λ (o : Option (Option (List ℕ))). message_in (entry o)) (get_other ms m n (option_map (λ (old : List ℕ). ws) (entry (slice_get ms m))) other)
 
--- WHO DOESN'T READ THEM
+-- A CONTEXT THAT DOESN'T READ THEM
 
 pub reads_same : (k : KernelState) (ec m : ℕ) (ws : List ℕ) → (ReadsWords k ec m → ⊥) → ReadsSame k (words_set k.messages m ws) ec
 reads_same k ec m ws unread = record {

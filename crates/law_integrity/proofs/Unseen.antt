@@ -1,4 +1,4 @@
--- A turn is the same over several things at once that who acts doesn't see.
+-- A turn is the same over several things at once that the context that acts doesn't see.
 use Rattle.std.proofs.Common.{◌≡◌, ℕ, List, [], ◌∷◌, ◌++◌, refl, sym, ap, ◌∙◌, subst}
 use Rattle.std.specs.Prelude.{Contains, option_map, slice_get}
 use Rattle.nova_objects.specs.declared.object.Object.{Object}

@@ -1,4 +1,4 @@
--- What is decided over a table of execution contexts that differs in registers alone: the same, but for who acts by registers that differ.
+-- What is decided over a table of execution contexts that differs in registers alone: the same, but for a context that acts by registers that differ.
 use Rattle.std.proofs.Common.{◌≡◌, ℕ, ◌≤◌, ◌-◌, List, [], ◌∷◌, refl, sym, ap, ap₂, ◌∙◌, subst, arith, inl, inr}
 use Rattle.std.specs.Prelude.{Bool, true, false, ◌⊎◌, ◌==◌, ◌&&◌, not, nat_le, Option, Some, None, Result, Ok, Err, if◌then◌else◌}
 use Rattle.std.proofs.lemmas.Bool.{and_parts}

@@ -1,4 +1,4 @@
--- A frame that nobody who acts may write stays.
+-- A frame that no context that acts may write stays.
 use Rattle.std.proofs.Common.{◌≡◌, ℕ, List, [], ◌∷◌, ◌++◌, refl, sym, ◌∙◌, subst}
 use Rattle.std.specs.Prelude.{slice_get}
 use Rattle.nova_model.specs.Boot.{Scenario, boot}

@@ -1,4 +1,4 @@
--- Who waits came by right, and who is no local thread pays for itself.
+-- A context that waits came by right, and a context that is no local thread pays for itself.
 use Rattle.std.proofs.Common.{◌≡◌, ℕ, zero, suc, List, [], ◌∷◌, ◌++◌, ◌⊎◌, refl, sym, ap, ◌∙◌, subst, inl, inr}
 use Rattle.std.specs.Prelude.{Option, Some, None, option_map, option_and_then}
 use Rattle.std.proofs.lemmas.Option.{same_Some}
@@ -38,7 +38,7 @@ use Rattle.law_integrity.proofs.Authorised.{has_turn}
 use Rattle.law_integrity.proofs.Edges.{local_edges, reached_rightful}
 use Rattle.law_integrity.proofs.Own.{exits_at}
 
--- WHO PAYS
+-- WHAT PAYS
 
 -- a way has a last edge
 last_edge : (n : ℕ) (edges : ℕ → Option ℕ) (e f : ℕ) → after_edges (suc n) edges e ≡ Some f → (x : ℕ) × (edges x ≡ Some f)
@@ -76,7 +76,7 @@ pays_itself s turns cpu ec is other =
     now : KernelState
     now = run (boot s) turns
 
--- WHO WAITS
+-- WHICH CONTEXT WAITS
 
 waits_more : (k : KernelState) (turns : List ℕ) (cpu n h : ℕ) → Waits k turns n h → (context (after (run k turns) cpu) n).state ≡ Calling h → Waits k (turns ++ cpu ∷ []) n h
 waits_more k [] cpu n h now next = (now, next)

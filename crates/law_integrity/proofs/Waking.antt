@@ -38,7 +38,7 @@ use Rattle.law_integrity.specs.Integrity.{IsAwake, IsFirstAwake, IsNewBudget, Is
 use Rattle.law_integrity.proofs.Branches.{creator_of}
 use Rattle.law_integrity.proofs.Entries.{join_each, same_length}
 
--- WHO IS WOKEN
+-- WHICH CONTEXT IS WOKEN
 
 pub cleared_itself : (ds : List (Option Deadline)) (n : ℕ) → entry (slice_get (slice_set ds n None) n) ≡ None
 cleared_itself [] n = refl
@@ -53,7 +53,7 @@ changed_at change all sm = by_entry (semaphore_at all sm) refl
     by_entry None is = tt
     by_entry (Some s) is = entry_itself all sm (change s) (ap (λ (o : Option Semaphore). is_some o) is)
 
--- the first of the queue, or nobody of an empty one
+-- the first of the queue, or none of an empty queue
 first_awake : (k new : KernelState) (sm count : ℕ) (ecs : List ℕ) → ((w : ℕ) → whom_of (woken_of count ecs) ≡ Some w → IsAwake k new sm w) → IsFirstAwake k new sm ecs (whom_of (woken_of count ecs))
 first_awake k new sm count [] awake = by_full (count == greatest)
   where
@@ -68,7 +68,7 @@ whom_ok (Err full) w is = absurd (cc)
 
 -- BY AN UP
 
--- who is woken isn't who acts
+-- the woken context isn't that which acts
 not_actor : (k : KernelState) (ec sm w : ℕ) → IsActor k.contexts ec → state_at (ec_in k.contexts w) ≡ Some (Blocked sm) → w ≢ ec
 not_actor k ec sm w actor blocked same =
     let both : true ≡ false = sym (ap is_blocked (ap (λ (n : ℕ). state_at (ec_in k.contexts n)) (sym same) ∙ blocked)) ∙ actor.unblocked in cc
@@ -144,7 +144,7 @@ alarm_raises k cpu alarm fits =
 
 -- NEW BUDGETS
 
--- who pays had a budget
+-- the scheduling context that pays had a budget
 pub payer : (k : KernelState) (cpu sc : ℕ) (new : KernelState) → IsPaidBy k new cpu sc → IsSome (budget_at k sc)
 payer k cpu sc new paid = ap (λ (o : Option Budget). is_some o) paid.there
 

@@ -31,7 +31,8 @@ pub record MayMakeAt (k : KernelState) (domain : ℕ) (r : Registers) (target ow
   pub creator : HoldsAt k domain (reg r 11) create_right owner
   pub opened : slice_get k.objects owner ≡ Some object.Pd
 
--- they ask for an execution context in that domain: x12 has its processor, one that there is, in bits 0 to 7 and its kind in bits 8 to 31, x13 its x2, and x14 its event base
+-- they ask for an execution context in that domain: x12 has its processor, which is there, in bits 0 to 7 and its kind in bits 8 to 31, x13 its x2,
+-- and x14 its event base
 pub record AsksContext (k : KernelState) (r : Registers) (owner pd cpu : ℕ) (kind : EcKind) (sp event : ℕ) : Type 0 where
   pub call : reg r 17 ≡ CREATE_EC
   pub domain : pd ≡ owner

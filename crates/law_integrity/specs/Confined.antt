@@ -1,5 +1,5 @@
--- Confinement: two sets of protection domains between which nothing leads, and beside which nobody acts.
--- A set is a predicate on the numbers of domains; at first a test says which.
+-- Confinement: two sets of protection domains between which nothing leads, and beside which no context acts. A set is a predicate on the numbers of
+-- domains; at first a test says which.
 use Rattle.std.specs.Prelude.{◌≡◌, ◌⊎◌, ◌<◌, ◌-◌, ℕ, Contains, Bool, true, List, [], ◌∷◌, ◌++◌, length, slice_get, Option, Some, None}
 use Rattle.nova_objects.specs.declared.object.EcKind.{EcKind}
 use Rattle.nova_objects.specs.declared.object.Object.{Object}
@@ -46,8 +46,8 @@ IsOwned k S n (Some (Sc donor cpu priority quantum)) = IsMember k S donor
 IsOwned k S n (Some (Pt handler mtd ip)) = IsMember k S handler
 IsOwned k S n other = Unit {0}
 
--- its domains are there; what their capabilities lead to is the set's own; who waits for one of its handlers, by a call, a help or an exit, is of the set; and so is a domain that is being
--- given its first range
+-- its domains are there; what their capabilities lead to is the set's own; a context that waits for one of its handlers, by a call, a help or an
+-- exit, is of the set; and so is a domain that is being given its first range
 pub record IsClosed (k : KernelState) (S : ℕ → Type 0) : Type 0 where
   pub there : (n : ℕ) → S n → slice_get k.objects n ≡ Some Pd
   pub capabilities : (d : Derivation) → Contains k.delegations.list d → S d.pd → d.kind ≡ Obj → IsOwned k S d.target (slice_get k.objects d.target)
@@ -93,11 +93,13 @@ pub record AreSeparate (k : KernelState) (S T : ℕ → Type 0) : Type 0 where
   pub disjoint : (n : ℕ) → S n → T n → ⊥
   pub rest : (ec : ℕ) (x : EcState) → context_at k ec ≡ Some x → IsIdle k S T ec x.state ⊎ (IsMember k S ec ⊎ IsMember k T ec)
 
--- nobody of S waits at a semaphore to which T holds a capability, with whatever right: with up T would wake it, and with down T would wait behind it, and it would take what comes to T
+-- no context of S waits at a semaphore to which T holds a capability, with whatever right: with up T would wake it, and with down T would wait behind
+-- it, and it would take what comes to T
 abbrev pub WaitsApart : KernelState → (ℕ → Type 0) → (ℕ → Type 0) → Type 0
 WaitsApart k S T = (n sm : ℕ) → (context k n).state ≡ Blocked sm → IsMember k S n → HoldsAny k T sm → ⊥
 
--- and no object is held by both; nobody of one waits at a semaphore that the other holds; and nobody of one waits where one of the other does, in whose queue each would decide who is woken
+-- and no object is held by both; no context of either waits at a semaphore that the other holds; and none of either waits where a context of the
+-- other does, in whose queue each would decide which is woken
 pub record AreSetsApart (k : KernelState) (S T : ℕ → Type 0) : Type 0 where
   pub separate : AreSeparate k S T
   pub objects : (object : ℕ) → HoldsAny k S object → HoldsAny k T object → ⊥
@@ -107,7 +109,7 @@ pub record AreSetsApart (k : KernelState) (S T : ℕ → Type 0) : Type 0 where
 
 -- THE SET ALONG TURNS
 
--- a domain that one of the set's makes in this turn joins the set
+-- a domain that a context of the set makes in this turn joins the set
 pub record JoinsSet (k : KernelState) (S : ℕ → Type 0) (cpu n : ℕ) : Type 0 where
   pub maker : ℕ
   pub acts : Acts k cpu maker
@@ -122,7 +124,7 @@ abbrev pub grown : KernelState → (ℕ → Type 0) → List ℕ → ℕ → Typ
 grown k S [] = S
 grown k S (cpu ∷ turns) = grown (after k cpu) (more k S cpu) turns
 
--- of a list of turns from k on the one in which one of the set's, as it has grown by then, made the object of this number
+-- the turn, of a list of turns from k on, in which a context of the set, as it has grown by then, made the object of this number
 pub record IsMadeAlong (k : KernelState) (S : ℕ → Type 0) (turns : List ℕ) (object : ℕ) : Type 0 where
   pub before : List ℕ
   pub cpu : ℕ
@@ -174,8 +176,10 @@ pub record LogsByte (k new : KernelState) (T : ℕ → Type 0) : Type 0 where
   pub reaches : Reach k T write_right frame
   pub joins : new.memory.log ≡ k.memory.log ++ record { console = frame - length k.memory.ram; value = value } ∷ []
 
--- A turn of one of T's leaves of S: registers and states, and deadlines, but for who is woken so; message words; places in items; identifiers of portals; budgets and ticks of scheduling contexts that are
--- bound to S's; the semaphores to which T holds neither up nor down; and the frames that T doesn't reach with write. The log gains at most a byte of a console that T does. S gains no derivation, and loses none but such as came from a domain of T's.
+-- A turn of a context of T leaves of S: registers and states, and deadlines, but for a context that is woken so; message words; places in items;
+-- identifiers of portals; budgets and ticks of scheduling contexts that are bound to S's; the semaphores to which T holds neither up nor down; and
+-- the frames that T doesn't reach with write. The log gains at most a byte of a console that T does. S gains no derivation, and loses none but such
+-- as came from a domain of T's.
 pub record LeavesTo (k new : KernelState) (T S : ℕ → Type 0) : Type 0 where
   pub contexts : (n : ℕ) → IsMember k S n → StaysOrWakes k T n (context_at k n) (context_at new n)
   pub deadlines : (n : ℕ) → IsMember k S n → (deadline_of new.times n ≡ deadline_of k.times n) ⊎ IsWoken k T n
@@ -189,7 +193,7 @@ pub record LeavesTo (k new : KernelState) (T S : ℕ → Type 0) : Type 0 where
   pub gains : (d : Derivation) → Contains new.delegations.list d → S d.pd → Contains k.delegations.list d
   pub keeps : (d : Derivation) → Contains k.delegations.list d → ((ancestor : Derivation) → Contains (line k.delegations.list d) ancestor → T ancestor.pd → ⊥) → Contains new.delegations.list d
 
--- in each of these turns who acts is of the set, as it has grown by then
+-- in each of these turns the context that acts is of the set, as it has grown by then
 abbrev pub OnlyOf : KernelState → (ℕ → Type 0) → List ℕ → Type 0
 OnlyOf k S [] = Unit {0}
 OnlyOf k S (cpu ∷ turns) = ((ec : ℕ) → Acts k cpu ec → IsMember k S ec) × OnlyOf (after k cpu) (more k S cpu) turns

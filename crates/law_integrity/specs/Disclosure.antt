@@ -54,9 +54,9 @@ pub record CallSame (k : KernelState) (g : ℕ) (r s : Registers) : Type 0 where
 abbrev pub ExitTellsSame : KernelState → ℕ → ℕ → Registers → Registers → Type 0
 ExitTellsSame k g reason r s = (portal : ℕ) → exit_portal k g reason ≡ Ok portal → AreSameIn (descriptor k portal) r s
 
--- What a turn of its own tells of its registers is the same of both, by the state that it is in: of an exit that is raised, the groups of that exit's portal; of a hypercall, or one
--- that is made again while it helps, number and arguments; of a first range that it gives, x12. In a turn at any other state, or with a recall that comes first, it tells nothing.
--- Of any other instruction nothing is said here.
+-- What a turn of its own tells of its registers is the same of both, by the state that it is in: of an exit that is raised, the groups of that exit's
+-- portal; of a hypercall, or of a call that is made again while it helps, number and arguments; of a first range that it gives, x12. In a turn at any
+-- other state, or with a recall that comes first, it tells nothing. Of any other instruction nothing is said here.
 abbrev pub TellsSame : KernelState → ℕ → Registers → Registers → State → Type 0
 TellsSame k g r s (Exiting reason q0 q1) = ExitTellsSame k g reason r s
 TellsSame k g r s (Sending reason q0 q1 handler) = ExitTellsSame k g reason r s
@@ -80,7 +80,7 @@ pub record DifferByExit (k l : KernelState) (g handler : ℕ) : Type 0 where
   pub words : Option (List ℕ)
   pub rest : l ≡ record (with_registers k g registers) { messages = slice_set k.messages handler words }
 
--- One whose turn is an instruction: no exit of it is raised, no recall comes first, and it is no hypercall.
+-- A context whose turn is an instruction: no exit of it is raised, no recall comes first, and it is no hypercall.
 pub record IsAtInstruction (k : KernelState) (g : ℕ) : Type 0 where
   pub state : (context k g).state ≡ Ready
   pub recall : (context k g).recall ≡ false
@@ -106,13 +106,14 @@ pub record DifferInWords (k l : KernelState) (m : ℕ) : Type 0 where
   pub words : List ℕ
   pub rest : l ≡ with_words k m words
 
--- Whose turn reads the message words of a thread: its own; that of a handler that takes the items of its call; and that of one that gives it the items of a reply, to its windows.
+-- Which turns read the message words of a thread: its own; that of a handler that takes the items of its call; and that of a handler that gives it
+-- the items of a reply, to its windows.
 pub data ReadsWords (k : KernelState) (ec m : ℕ) : Type 0 where
   ItsOwn : ec ≡ m → ReadsWords k ec m
   TakesItems : (context k ec).state ≡ Granting None → (came : Mark) → (context k ec).caller ≡ Some (m, came) → ReadsWords k ec m
   GivesItems : (context k ec).state ≡ Replying → (came : Mark) → (context k ec).caller ≡ Some (m, came) → ReadsWords k ec m
 
--- in this turn nobody does
+-- in this turn none does
 abbrev pub AreWordsUnread : KernelState → ℕ → ℕ → Type 0
 AreWordsUnread k cpu m = (ec : ℕ) → Acts k cpu ec → ReadsWords k ec m → ⊥
 
@@ -139,7 +140,7 @@ abbrev pub Differ : List Secret → KernelState → KernelState → Type 0
 Differ [] k l = l ≡ k
 Differ (s ∷ secrets) k l = (m : KernelState) × DiffersIn s k m × Differ secrets m l
 
--- the one who acts doesn't see it: the registers are another's, it reads no such words, and no page of its domain leads to the frame
+-- the context that acts doesn't see it: the registers are another's, it reads no such words, and no page of its domain leads to the frame
 abbrev pub IsUnseen : KernelState → ℕ → Secret → Type 0
 IsUnseen k ec (InRegisters n) = ec ≢ n
 IsUnseen k ec (InWords n) = ReadsWords k ec n → ⊥

@@ -1,6 +1,6 @@
--- Integrity: whatever a turn changes, the one whose turn it is had the authority for it, by what was held in the state before the turn.
--- Read `IsAuthorised`, `IsByRight` and `IsByTime` at the end first: the state after a turn is that of a deed, which is rightful, or of what comes by itself; and of each
--- part of the state it either stays, or changes in a way that names the right.
+-- Integrity: whatever a turn changes, the context whose turn it is had the authority for it, by what was held in the state before the turn. Read
+-- `IsAuthorised`, `IsByRight` and `IsByTime` at the end first: the state after a turn is that of a deed, which is rightful, or of what comes by
+-- itself; and of each part of the state it either stays, or changes in a way that names the right.
 use Rattle.std.specs.Prelude.{◌≡◌, ◌≢◌, ◌⊎◌, ℕ, ◌+◌, ◌-◌, ◌%◌, List, [], ◌∷◌, ◌++◌, Bool, Contains, IfSome, IsSome, true, false, Option, Some, None, length, slice_get, slice_index, slice_set, option_map}
 use Rattle.byteorder.specs.Endian.{little_bytes}
 use Rattle.rv_model.specs.Registers.{Registers, reg}
@@ -60,7 +60,7 @@ use Rattle.law_integrity.specs.Rights.{AsksDown, AsksUp, CallsAt, ExitsAt, Gives
 
 -- MEMORY
 
--- the bytes of a frame: a store of the one who acts, whose domain reaches the frame with the right to write
+-- the bytes of a frame: a store of the context that acts, whose domain reaches the frame with the right to write
 pub record FrameBy (k : KernelState) (ec frame : ℕ) (old new : Option (List ℕ)) : Type 0 where
   pub store : Store
   pub bytes : List ℕ
@@ -79,8 +79,8 @@ pub record LogBy (k : KernelState) (ec : ℕ) (old new : List LogByte) : Type 0 
 
 -- MESSAGE WORDS
 
--- of the one who acts by its own store; of the handler that it calls, or to which its exit goes, which is parked; of its caller, to whom it replies and which waits for that; of itself or its caller, who is
--- told by two words what came of the present item; or of a new thread
+-- of the context that acts by its own store; of the handler that it calls, or to which its exit goes, which is parked; of its caller, to which it
+-- replies and which waits for that; of itself or its caller, which is told by two words what came of the present item; or of a new thread
 pub data MessageBy (k : KernelState) (ec n : ℕ) (new : Option (List ℕ)) : Type 0 where
   StoresOwn : n ≡ ec → (s : Store) → HasStore k ec s → IsAmongWords k ec s → new ≡ Some (stored (message k n) (s.address % 4096) s.width s.value) → MessageBy k ec n new
   CopiesCall : CallsAt k ec n → (context k n).state ≡ Parked → new ≡ Some (copied (message k ec) (message k n)) → MessageBy k ec n new
@@ -92,7 +92,8 @@ pub data MessageBy (k : KernelState) (ec n : ℕ) (new : Option (List ℕ)) : Ty
 
 -- EXECUTION CONTEXTS
 
--- one at birth: its number, pc 0 and all registers 0 but for x2; nobody's handler, and no recall; a local thread is parked, any other raises its startup exit first
+-- a context at birth: its number, pc 0 and all registers 0 but for x2; the handler of none, and no recall; a local thread is parked, any other raises
+-- its startup exit first
 pub record IsBorn (n : ℕ) (x : EcState) : Type 0 where
   pub number : x.id ≡ n
   pub pc : x.regs.pc ≡ 0
@@ -101,13 +102,14 @@ pub record IsBorn (n : ℕ) (x : EcState) : Type 0 where
   pub recall : x.recall ≡ false
   pub state : (x.state ≡ Parked) ⊎ (x.state ≡ Fresh)
 
--- one that acts ends: nobody takes its exit, or the handler for whose reply it waits has ended
+-- a context that acts ends: no handler takes its exit, or the handler for whose reply it waits has ended
 pub data EndsBy (k : KernelState) (ec : ℕ) : Type 0 where
   Lost : (reason q0 : ℕ) → IsExitLost k ec reason q0 → EndsBy k ec
   Left : (handler : ℕ) → (context k ec).state ≡ Calling handler → is_dead (state_in k.contexts handler) ≡ true → EndsBy k ec
 
--- a state to which one that acts may come by itself: to wait for a handler, by a portal that it may call or to which its exit goes; to wait at a semaphore by a down, to which it has the right; to give
--- a first range to a domain that it makes; to reply to the caller that it serves, and to be parked then; to an exit that it raises; to a revoke that its registers ask for; or to its end
+-- a state to which a context that acts may come by itself: to wait for a handler, by a portal that it may call or to which its exit goes; to wait at
+-- a semaphore by a down, to which it has the right; to give a first range to a domain that it makes; to reply to the caller that it serves, and to be
+-- parked then; to an exit that it raises; to a revoke that its registers ask for; or to its end
 abbrev pub MayComeTo : KernelState → ℕ → State → Type 0
 MayComeTo k ec (Calling handler) = CallsAt k ec handler ⊎ ExitsAt k ec handler
 MayComeTo k ec (Helping handler) = CallsAt k ec handler
@@ -134,7 +136,7 @@ pub data RecallBy (k : KernelState) (ec : ℕ) (old new : Bool) (state : State) 
   ByExit : new ≡ false → (q0 q1 : ℕ) → state ≡ Exiting recall q0 q1 → RecallBy k ec old new state
   AsksItself : new ≡ true → Names k ec EC_CTRL control_right ec → RecallBy k ec old new state
 
--- the one who acts, before and after its turn: its number and processor stay, and its caller, but where it is parked
+-- the context that acts, before and after its turn: its number and processor stay, and its caller, but where it is parked
 pub record IsItself (k : KernelState) (ec : ℕ) (old new : EcState) : Type 0 where
   pub number : new.id ≡ old.id
   pub processor : new.cpu ≡ old.cpu
@@ -143,9 +145,9 @@ pub record IsItself (k : KernelState) (ec : ℕ) (old new : EcState) : Type 0 wh
   pub caller : (new.caller ≡ old.caller) ⊎ ((new.caller ≡ None) × (new.state ≡ Parked))
   pub recall : RecallBy k ec old.recall new.recall new.state
 
--- the one who acts; the handler that it calls, or to which its exit goes, which is parked and begins where its portal says; its caller, which waits for its reply and goes on;
--- one whose recall it asks for, which it controls; the first that waits at a semaphore that it raises; or a new one. `words` are the message words of the one who acts, after
--- the turn.
+-- the context that acts; the handler that it calls, or to which its exit goes, which is parked and begins where its portal says; its caller, which
+-- waits for its reply and goes on; a context whose recall it asks for, which it controls; the first that waits at a semaphore that it raises; or a
+-- new context. `words` are the message words of the context that acts, after the turn.
 pub data ContextBy (k : KernelState) (ec n : ℕ) (words : List ℕ) (old new : Option EcState) : Type 0 where
   Itself : n ≡ ec → (x y : EcState) → old ≡ Some x → new ≡ Some y → IsItself k ec x y → ContextBy k ec n words old new
   Called : (c : CallsAt k ec n) (x : EcState) → old ≡ Some x → x.state ≡ Parked →
@@ -158,7 +160,7 @@ pub data ContextBy (k : KernelState) (ec n : ℕ) (words : List ℕ) (old new : 
       new ≡ Some (answered x Success None) → ContextBy k ec n words old new
   NewContext : IsNew k ec n → IfSome new (IsBorn n) → ContextBy k ec n words old new
 
--- how far it is with its items: of the one who acts, which gives a part and counts it, skips one, or ends its item; or of a new one
+-- how far it is with its items: of the context that acts, which gives a part and counts it, skips one, or ends its item; or of a new context
 pub data TransferBy (k : KernelState) (ec n : ℕ) (new : Option Transfer) : Type 0 where
   GivesPart : n ≡ ec → (child : Derivation) (cursor : ℕ) → deed k ec ≡ deeds.Gives child cursor → new ≡ Some (gave (transfer k ec) cursor) → TransferBy k ec n new
   SkipsPart : n ≡ ec → (reason : Reason) (place cursor : ℕ) → deed k ec ≡ deeds.Skips reason place cursor → new ≡ Some (skipped (transfer k ec) cursor) → TransferBy k ec n new
@@ -168,8 +170,9 @@ pub data TransferBy (k : KernelState) (ec n : ℕ) (new : Option Transfer) : Typ
 
 -- OBJECTS AND DELEGATIONS
 
--- they stay; a new object comes, with the first capability to it, which is its maker's; a child of what the giver holds and is the first left of the present item, with no target and no right more, within the item's window, to one
--- who takes it or waits for it; or a leaf of a revoke's scope goes
+-- they stay; a new object comes, with the first capability to it, which is its maker's; a child of what the giver holds and is the first left of the
+-- present item, with no target and no right more, within the item's window, to a context that takes it or waits for it; or a leaf of a revoke's scope
+-- goes
 pub data GrowsByRight (k new : KernelState) (ec : ℕ) : Type 0 where
   Keeps : new.objects ≡ k.objects → new.delegations ≡ k.delegations → GrowsByRight k new ec
   Creates : (object : Object) (capability : Derivation) → IsFirstCapability k ec object capability → new.objects ≡ k.objects ++ object ∷ [] →
@@ -178,18 +181,18 @@ pub data GrowsByRight (k new : KernelState) (ec : ℕ) : Type 0 where
       GivesTo k ec source.pd child.pd → new.objects ≡ k.objects → new.delegations ≡ added k.delegations child → GrowsByRight k new ec
   Takes : (leaf : Derivation) → MayTake k ec leaf → new.objects ≡ k.objects → new.delegations ≡ without k.delegations leaf.id → GrowsByRight k new ec
 
--- a portal's identifier: who controls the portal, with the number in x11; or of a new portal
+-- a portal's identifier: of a context that controls the portal, with the number in x11; or of a new portal
 pub data IdentifierBy (k : KernelState) (ec n : ℕ) (new : Option ℕ) : Type 0 where
   Controls : Names k ec PT_CTRL control_right n → new ≡ Some (reg (context k ec).regs 11) → IdentifierBy k ec n new
   NewPortal : IsNew k ec n → IfSome new (λ i. i ≡ 0) → IdentifierBy k ec n new
 
--- a semaphore's counter and queue: who has the right to an up, or to a down; or of a new one
+-- a semaphore's counter and queue: of a context that has the right to an up, or to a down; or of a new semaphore
 pub data SemaphoreBy (k : KernelState) (ec n : ℕ) (old new : Option Semaphore) : Type 0 where
   Ups : AsksUp k ec n → (s : Semaphore) → old ≡ Some s → new ≡ Some (raised s) → SemaphoreBy k ec n old new
   Downs : AsksDown k ec n → (s : Semaphore) → old ≡ Some s → new ≡ Some (lowered ec s) → SemaphoreBy k ec n old new
   NewSemaphore : IsNew k ec n → IfSome new (λ s. s.waiting ≡ []) → SemaphoreBy k ec n old new
 
--- Where a semaphore is raised: the first that waits there was blocked there, and goes on with success and without a deadline; or nobody waits.
+-- Where a semaphore is raised: the first that waits there was blocked there, and goes on with success and without a deadline; or none waits.
 pub record IsAwake (k new : KernelState) (sm n : ℕ) : Type 0 where
   pub context : EcState
   pub there : context_at k n ≡ Some context
@@ -206,8 +209,8 @@ pub record IsRaised (k new : KernelState) (sm : ℕ) (whom : Option ℕ) : Type 
   pub raises : IfSome (semaphore_at k.semaphores sm) (λ s. semaphore_at new.semaphores sm ≡ Some (raised s))
   pub first : IsFirstAwake k new sm (semaphore k.semaphores sm).waiting whom
 
--- a deadline: of one that blocks itself at a semaphore to which it has the right to a down, on its processor and at the moment that its registers ask for; or the first
--- that waits at a semaphore that is raised has none any more
+-- a deadline: of a context that blocks itself at a semaphore to which it has the right to a down, on its processor and at the moment that its
+-- registers ask for; or the first that waits at a semaphore that is raised has none any more
 pub data DeadlineBy (k : KernelState) (ec n : ℕ) (new : Option Deadline) : Type 0 where
   Sets : n ≡ ec → (d : Deadline) → AsksDown k ec d.sm → IsOwnDeadline k ec d.sm d → new ≡ Some d → DeadlineBy k ec n new
   Clears : (sm : ℕ) → AsksUp k ec sm → (rest : List ℕ) → (semaphore k.semaphores sm).waiting ≡ n ∷ rest → new ≡ None → DeadlineBy k ec n new
@@ -231,8 +234,8 @@ pub record IsNewBudget (k new : KernelState) (ec n : ℕ) : Type 0 where
 
 -- A TURN
 
--- the state after is what comes of a deed of `ec`, of the stir counts that it raises, and of the charge of `sc` with a turn of the processor. The deed is the one that `ec` is about to do,
--- which is rightful and isn't to rest, and which it asks for where only a hypercall does it.
+-- the state after is what comes of a deed of `ec`, of the stir counts that it raises, and of the charge of `sc` with a turn of the processor. The
+-- deed is that which `ec` is about to do, which is rightful and isn't to rest, and which it asks for where only a hypercall does it.
 pub record IsAfterDeed (k new : KernelState) (cpu ec sc : ℕ) : Type 0 where
   pub after : new ≡ charged (stirred k ec (deed k ec) (done k ec (deed k ec))) cpu sc
   pub rightful : IsRightful k ec (deed k ec)
@@ -242,7 +245,7 @@ pub record IsAfterDeed (k new : KernelState) (cpu ec sc : ℕ) : Type 0 where
 -- the turn of a processor in which `ec` acts and `sc` pays: it does the deed of `ec`; and so each part of the state stays, or changes by right
 pub record IsByRight (k new : KernelState) (cpu ec sc : ℕ) : Type 0 where
   pub does : IsAfterDeed k new cpu ec sc
-  -- whom it serves waits for its reply
+  -- the caller that it serves waits for its reply
   pub serves : (caller : ℕ) (mark : Mark) → ServesCaller k ec caller mark → (context k caller).state ≡ Calling ec
   pub frames : (frame : ℕ) → (slice_get new.memory.ram frame ≡ slice_get k.memory.ram frame) ⊎ FrameBy k ec frame (slice_get k.memory.ram frame) (slice_get new.memory.ram frame)
   pub log : (new.memory.log ≡ k.memory.log) ⊎ LogBy k ec k.memory.log new.memory.log
@@ -268,8 +271,8 @@ pub record IsByRight (k new : KernelState) (cpu ec sc : ℕ) : Type 0 where
 
 -- WHAT COMES BY ITSELF
 
--- `what` is due, if anything. One that is blocked is answered: the first that waits at the semaphore of an alarm that rings, with success; or the one whose deadline
--- it is, which set it when it came to wait at that semaphore, with a timeout.
+-- `what` is due, if anything. A blocked context is answered: the first that waits at the semaphore of an alarm that rings, with success; or the
+-- context whose deadline it is, which set it when it came to wait at that semaphore, with a timeout.
 pub data ContextByTime (k : KernelState) (what : Option Due) (n : ℕ) (old new : Option EcState) : Type 0 where
   RungAwake : (alarm : ℕ) (a : AlarmState) → what ≡ Some (due.Alarm alarm) → slice_get k.times.alarms alarm ≡ Some a → (rest : List ℕ) →
       (semaphore k.semaphores a.alarm.sm).waiting ≡ n ∷ rest → (x : EcState) → old ≡ Some x → x.state ≡ Blocked a.alarm.sm →
@@ -277,14 +280,14 @@ pub data ContextByTime (k : KernelState) (what : Option Due) (n : ℕ) (old new 
   TimedOut : (d : Deadline) → what ≡ Some (due.Deadline n) → deadline_of k.times n ≡ Some d → (x : EcState) → old ≡ Some x → x.state ≡ Blocked d.sm →
       new ≡ Some (answered x Timeout None) → ContextByTime k what n old new
 
--- the alarm's semaphore is raised; who timed out leaves the queue of the deadline's
+-- the alarm's semaphore is raised; the context that timed out leaves the queue of the deadline's
 pub data SemaphoreByTime (k : KernelState) (what : Option Due) (n : ℕ) (old new : Option Semaphore) : Type 0 where
   Rung : (alarm : ℕ) (a : AlarmState) → what ≡ Some (due.Alarm alarm) → slice_get k.times.alarms alarm ≡ Some a → n ≡ a.alarm.sm → (s : Semaphore) → old ≡ Some s →
       new ≡ Some (raised s) → SemaphoreByTime k what n old new
   LeftByLate : (ec : ℕ) (d : Deadline) → what ≡ Some (due.Deadline ec) → deadline_of k.times ec ≡ Some d → n ≡ d.sm → (s : Semaphore) → old ≡ Some s →
       new ≡ Some (without_one ec s) → SemaphoreByTime k what n old new
 
--- who is answered has no deadline any more
+-- the context that is answered has no deadline any more
 pub data DeadlineByTime (k : KernelState) (what : Option Due) (n : ℕ) (new : Option Deadline) : Type 0 where
   ClearedAwake : (alarm : ℕ) (a : AlarmState) → what ≡ Some (due.Alarm alarm) → slice_get k.times.alarms alarm ≡ Some a → (rest : List ℕ) →
       (semaphore k.semaphores a.alarm.sm).waiting ≡ n ∷ rest → new ≡ None → DeadlineByTime k what n new
@@ -294,8 +297,8 @@ pub data DeadlineByTime (k : KernelState) (what : Option Due) (n : ℕ) (new : O
 pub data AlarmByTime (what : Option Due) (n : ℕ) (old new : Option AlarmState) : Type 0 where
   Rings : what ≡ Some (due.Alarm n) → (a : AlarmState) → old ≡ Some a → new ≡ Some (rung_once a) → AlarmByTime what n old new
 
--- what is due is done: the alarm comes to its next moment and its semaphore is raised, where the event `irq` of the turn names the execution context that goes on, or 0, with the
--- status of that up; or who has the deadline leaves the queue and goes on without it
+-- what is due is done: the alarm comes to its next moment and its semaphore is raised, where the event `irq` of the turn names the execution context
+-- that goes on, or 0, with the status of that up; or the context that has the deadline leaves the queue and goes on without it
 pub record IsRung (k new : KernelState) (cpu n : ℕ) : Type 0 where
   pub alarm : AlarmState
   pub there : slice_get k.times.alarms n ≡ Some alarm
@@ -324,7 +327,8 @@ abbrev pub passed_by : KernelState → ℕ → Option Due → KernelState
 passed_by k cpu (Some what) = (what_is_due k cpu what).kernel
 passed_by k cpu None = counted k cpu
 
--- the turn of a processor in which nobody acts and nobody pays: the state after is that of what is due; this is done, and but for who waits, semaphores, times and the counts of turns all stays
+-- the turn of a processor in which no context acts and none pays: the state after is that of what is due; this is done, and but for the contexts that
+-- wait, semaphores, times and the counts of turns all stays
 pub record IsByTime (k new : KernelState) (cpu : ℕ) (what : Option Due) : Type 0 where
   pub after : new ≡ passed_by k cpu what
   pub done : IsDone k new cpu what
@@ -347,14 +351,14 @@ pub record IsByTime (k new : KernelState) (cpu : ℕ) (what : Option Due) : Type
   pub cpus : new.cpus ≡ k.cpus
   pub consoles : new.consoles ≡ k.consoles
 
--- why such a turn comes: this is due on the processor, where the alarm is one of it that goes on, or the deadline of one of it, and its moment has come; or nothing is due
--- there and nobody is chosen, but something is to come
+-- why such a turn comes: this is due on the processor, where the alarm is one of the processor that goes on, or the deadline of one of its contexts,
+-- and its moment has come; or nothing is due there and none is chosen, but something is to come
 abbrev pub IsComing : KernelState → ℕ → Option Due → Type 0
 IsComing k cpu (Some what) = IsDueOn k.times cpu what
 IsComing k cpu None = (due_on k.times cpu ≡ None) × (choose k cpu ≡ None) × IsSome (next_moment k.times cpu)
 
--- What a processor's turn comes to: nothing, where nothing is due, none is chosen and nothing is to come; the rightful deed of one who acts in it; or what comes by itself, where nobody acts: an alarm rings, a
--- deadline ends a wait, or the clock alone goes on.
+-- What a processor's turn comes to: nothing, where nothing is due, none is chosen and nothing is to come; the rightful deed of a context that acts in
+-- it; or what comes by itself, where none acts: an alarm rings, a deadline ends a wait, or the clock alone goes on.
 pub data IsAuthorised (k new : KernelState) (cpu : ℕ) : Type 0 where
   Idles : choose k cpu ≡ None → next_moment k.times cpu ≡ None → new ≡ k → IsAuthorised k new cpu
   ByActor : (ec sc : ℕ) → HasTurn k cpu ec sc → IsByRight k new cpu ec sc → IsAuthorised k new cpu

@@ -1,4 +1,4 @@
--- What one that acts is about to do is rightful: what the deed names of others is what its domain holds, or whom it serves.
+-- What a context that acts is about to do is rightful: what the deed names of others is what its domain holds, or the caller that it serves.
 use Rattle.std.specs.Prelude.{◌≡◌, ◌≢◌, ◌<◌, ◌==◌, ℕ, ◌+◌, ◌%◌, ◌^◌, Bool, true, false, Contains, IfSome, Option, Some, None, Ok, Err, slice_get}
 use Rattle.rv_model.specs.Registers.{Registers, reg}
 use Rattle.rv_model.specs.Step.{Raised, Store, Went, environment_call}
@@ -79,7 +79,7 @@ pub record IsExitAt (k : KernelState) (ec handler ip number mtd reason q0 q1 : �
   pub number_is : number ≡ identifier k portal
   pub admits : exit_admitted k.contexts ec handler ≡ comes
 
--- one that dies of an exit: it was raised, and the handler of whatever portal its domain holds there with that right doesn't take it
+-- a context that dies of an exit: it was raised, and the handler of whatever portal its domain holds there with that right doesn't take it
 pub record IsExitLost (k : KernelState) (ec reason q0 : ℕ) : Type 0 where
   pub q1 : ℕ
   pub raised : raised_exit (context k ec).state ≡ Some (reason, q0, q1)
@@ -114,8 +114,8 @@ pub record HasFirstPlace (k : KernelState) (ec : ℕ) (range : Range) (d : Deriv
   pub kind : d.kind ≡ range.kind
   pub place : HasPlace (range_of d) range.base
 
--- a number that a call of this number is told: by a lookup 0, where no derivation of its own domain has the first place of the range, or the word of the one that has it; or the ticks of a scheduling context,
--- which it controls
+-- a number that a call of this number is told: by a lookup 0, where no derivation of its own domain has the first place of the range, or the word of
+-- that which has it; or the ticks of a scheduling context, which it controls
 pub data IsToldValue (k : KernelState) (ec call value : ℕ) : Type 0 where
   OfNothing : call ≡ LOOKUP → (range : Range) → LooksUp k ec range → ((d : Derivation) → HasFirstPlace k ec range d → ⊥) → value ≡ 0 → IsToldValue k ec call value
   OfRange : call ≡ LOOKUP → (range : Range) → LooksUp k ec range → (d : Derivation) → HasFirstPlace k ec range d → value ≡ word_of (Some (range_of d, d.rights)) → IsToldValue k ec call value
@@ -126,14 +126,15 @@ pub record IsRefusedCall (k : KernelState) (ec call : ℕ) (status : Status) : T
   pub number : call ≡ reg (context k ec).regs 17
   pub undone : status ≢ Success
 
--- what becomes of an exit that is raised and not sent, and of no other: it ends who raised it, waits for its handler or is sent
+-- what becomes of an exit that is raised and not sent, and of no other: it ends the context that raised it, waits for its handler or is sent
 abbrev pub IsOfExit : ℕ → ℕ → ℕ → Deed → Type 0
 IsOfExit reason q0 q1 (deed.Dies its a) = (its ≡ reason) × (a ≡ q0)
 IsOfExit reason q0 q1 (deed.Waits handler its a b) = (its ≡ reason) × (a ≡ q0) × (b ≡ q1)
 IsOfExit reason q0 q1 (deed.Sends handler ip number mtd its a b) = (its ≡ reason) × (a ≡ q0) × (b ≡ q1)
 IsOfExit reason q0 q1 other = ⊥
 
--- the deadline of a down with one, which x11 asks for: at the semaphore, on the processor of who waits, and so many ticks after this turn as its x12 says, which are not 0
+-- the deadline of a down that has one, which x11 asks for: at the semaphore, on the processor of the context that waits, and as many ticks after this
+-- turn as its x12 says, which are not 0
 pub record IsOwnDeadline (k : KernelState) (ec sm : ℕ) (d : Deadline) : Type 0 where
   pub asks : reg (context k ec).regs 11 ≡ 2
   pub semaphore : d.sm ≡ sm
@@ -163,8 +164,10 @@ pub record MovesPast (k : KernelState) (ec cursor : ℕ) : Type 0 where
   pub first : IsFirstLeft k.delegations.list job source
   pub behind : cursor ≡ source.base + 2 ^ source.order
 
--- an up has no overflow; a down that is done finds the counter above 0, and one that waits finds it 0; of one that waits for a reply, the handler keeps it as its caller, by the mark with which it came; a part of an item that is given or skipped is of the derivation that is the first left, behind which the cursor comes, and one that is skipped is so for a reason that holds; an item ends as it is, and words tell of it to
--- whom it is for; a revoke is the one that the registers ask for, and returns where nothing is left of its scope
+-- an up has no overflow; a down that is done finds the counter above 0, and a down that waits finds it 0; of a context that waits for a reply, the
+-- handler keeps it as its caller, by the mark with which it came; a part of an item that is given or skipped is of the derivation that is the first
+-- left, behind which the cursor comes, and a part that is skipped is so for a reason that holds; an item ends as it is, and words tell of it to the
+-- context that it is for; a revoke is that which the registers ask for, and returns where nothing is left of its scope
 abbrev pub IsRightful : KernelState → ℕ → Deed → Type 0
 IsRightful k ec deed.Steps = IsStep k ec
 IsRightful k ec (deed.Raises reason q0 q1) = RaisesExit k ec reason q0 q1

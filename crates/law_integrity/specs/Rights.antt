@@ -1,4 +1,4 @@
--- By what right one acts on others: what its protection domain holds, and whom it serves, in the state before its turn.
+-- By what right a context acts on others: what its protection domain holds, and the caller that it serves, in the state before its turn.
 use Rattle.std.specs.Prelude.{◌≡◌, ◌⊎◌, ℕ, ◌+◌, ◌-◌, ◌/◌, Contains, Bool, true, Some, None, length, slice_get}
 use Rattle.rv_model.specs.Registers.{Registers, reg}
 use Rattle.rv_model.specs.Step.{Store, Went}
@@ -28,10 +28,10 @@ use Rattle.law_forest.specs.Made.{MayCreate}
 use Rattle.law_turns.specs.Asked.{HoldsAt, IsCalling}
 use Rattle.law_turns.specs.Links.{IsCallerOf}
 
--- WHO ACTS, AND WHO PAYS
+-- WHICH CONTEXT ACTS, AND WHAT PAYS
 
--- nothing is due on this processor; the scheduling context `sc`, which is chosen there, is bound to the donor, whose turns go along edges, each from one that waits to the handler that it waits for, to `ec`, which
--- acts, and to none before it
+-- nothing is due on `cpu`; the scheduling context `sc`, which is chosen there, is bound to the donor, whose turns go along edges, each from a context
+-- that waits to the handler that it waits for, to `ec`, which acts, and to none before it
 pub record HasTurn (k : KernelState) (cpu ec sc : ℕ) : Type 0 where
   pub early : due_on k.times cpu ≡ None
   pub chosen : choose k cpu ≡ Some sc
@@ -67,12 +67,12 @@ pub record StoresTo (k : KernelState) (ec frame : ℕ) (s : Store) : Type 0 wher
 
 -- OBJECTS
 
--- a thread whose next instruction is a hypercall, with no recall before it; or one that makes its call again, since its handler was busy
+-- a thread whose next instruction is a hypercall, with no recall before it; or a thread that makes its call again, since its handler was busy
 pub data IsAsking (k : KernelState) (ec : ℕ) : Type 0 where
   AtCall : IsCalling k ec → IsAsking k ec
   Again : (handler : ℕ) → (context k ec).state ≡ Helping handler → IsAsking k ec
 
--- it makes a call, the one of this number, in x17, and at the selector in its x10 its domain holds the object `n`, with this right
+-- it makes the call of this number, in x17, and at the selector in its x10 its domain holds the object `n`, with this right
 pub record Names (k : KernelState) (ec call right n : ℕ) : Type 0 where
   pub asks : IsAsking k ec
   pub number : reg (context k ec).regs 17 ≡ call
@@ -107,7 +107,7 @@ pub record ExitsAt (k : KernelState) (ec handler : ℕ) : Type 0 where
   pub held : HoldsAt k (pd_of k ec) (event_base k ec + reason) event_right portal
   pub object : slice_get k.objects portal ≡ Some (Pt handler mtd ip)
 
--- it serves the caller, who came by a call or an exit
+-- it serves the caller, which came by a call or an exit
 abbrev pub ServesCaller : KernelState → ℕ → ℕ → Mark → Type 0
 ServesCaller = IsCallerOf
 
@@ -118,8 +118,8 @@ pub record IsNew (k : KernelState) (ec n : ℕ) : Type 0 where
 
 -- DELEGATIONS
 
--- by whom derivations of one domain go to another: a handler takes them of its caller, who sent them; it gives them with its reply, for which its caller waits; or
--- the maker of a protection domain gives a first range
+-- by which contexts derivations of one domain go to another: a handler takes them of its caller, which sent them; it gives them with its reply, for
+-- which its caller waits; or the maker of a protection domain gives a first range
 pub data GivesTo (k : KernelState) (ec giver receiver : ℕ) : Type 0 where
   TakesOfCaller : (caller : ℕ) (mark : Mark) → (context k ec).state ≡ Granting None → ServesCaller k ec caller mark → pd_of k caller ≡ giver → pd_of k ec ≡ receiver →
       GivesTo k ec giver receiver

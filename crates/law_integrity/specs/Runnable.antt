@@ -1,4 +1,4 @@
--- Who may run, in words: a scheduling context of the processor whose turns lead to one that acts.
+-- What may run, in words: a scheduling context of the processor whose turns lead to a context that acts.
 use Rattle.std.specs.Prelude.{◌≡◌, ℕ, true, Some, slice_get}
 use Rattle.nova_objects.specs.declared.object.Object.TheVariants.{Sc}
 use Rattle.nova_model.specs.Choice.{Candidate}

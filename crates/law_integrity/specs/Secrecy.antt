@@ -16,7 +16,7 @@ pub record IsHidden (k : KernelState) (domain frame : ℕ) : Type 0 where
 abbrev pub with_bytes : KernelState → ℕ → List ℕ → KernelState
 with_bytes k frame bytes = record k { memory = record k.memory { ram = slice_set k.memory.ram frame bytes } }
 
--- in each of these turns the frame is hidden from the domain of the one who acts
+-- in each of these turns the frame is hidden from the domain of the context that acts
 abbrev pub IsHiddenAlong : KernelState → List ℕ → ℕ → Type 0
 IsHiddenAlong k [] frame = Unit {0}
 IsHiddenAlong k (cpu ∷ turns) frame = ((ec : ℕ) → Acts k cpu ec → IsHidden k (pd_of k ec) frame) × IsHiddenAlong (after k cpu) turns frame

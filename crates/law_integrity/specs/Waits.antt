@@ -1,4 +1,4 @@
--- Who waits for a handler, and by what right it came to; and who pays for whom.
+-- The contexts that wait for a handler, and by what right they came to; and what pays for the turns of a context.
 use Rattle.std.specs.Prelude.{◌≡◌, ◌⊎◌, ℕ, List, [], ◌∷◌, ◌++◌, Some, true, option_map, slice_get}
 use Rattle.nova_objects.specs.declared.object.Object.TheVariants.{Sc}
 use Rattle.nova_model.specs.Capabilities.{is_local}
@@ -19,7 +19,8 @@ abbrev pub Waits : KernelState → List ℕ → ℕ → ℕ → Type 0
 Waits k [] n h = (context k n).state ≡ Calling h
 Waits k (cpu ∷ turns) n h = ((context k n).state ≡ Calling h) × Waits (after k cpu) turns n h
 
--- of a list of turns from k on the one in which it called the handler, or had its exit sent to it, by a portal that its domain held; it has waited ever since
+-- the turn, of a list of turns from k on, in which it called the handler, or had its exit sent to it, by a portal that its domain held; it has waited
+-- ever since
 pub record HasCome (k : KernelState) (turns : List ℕ) (n h : ℕ) : Type 0 where
   pub before : List ℕ
   pub cpu : ℕ
@@ -34,7 +35,8 @@ abbrev pub Keeps : KernelState → List ℕ → ℕ → Deadline → Type 0
 Keeps k [] n d = deadline_of k.times n ≡ Some d
 Keeps k (cpu ∷ turns) n d = (deadline_of k.times n ≡ Some d) × Keeps (after k cpu) turns n d
 
--- of a list of turns from k on the one in which it set this deadline for itself, by a down of a semaphore to which its domain held the right then; it has had it ever since
+-- the turn, of a list of turns from k on, in which it set this deadline for itself, by a down of a semaphore to which its domain held the right then;
+-- it has had it ever since
 pub record HasSet (k : KernelState) (turns : List ℕ) (n : ℕ) (d : Deadline) : Type 0 where
   pub before : List ℕ
   pub cpu : ℕ
@@ -49,7 +51,7 @@ pub record HasSet (k : KernelState) (turns : List ℕ) (n : ℕ) (d : Deadline) 
 abbrev pub HasLocalEdges : KernelState → Type 0
 HasLocalEdges k = (e h : ℕ) → edge k.contexts e ≡ Some h → IsOf k.objects is_local h
 
--- the turn of the processor is paid by a scheduling context that is bound to this one itself
+-- the turn of the processor is paid by a scheduling context that is bound to `ec` itself
 pub record PaysItself (k : KernelState) (cpu ec : ℕ) : Type 0 where
   pub sc : ℕ
   pub priority : ℕ

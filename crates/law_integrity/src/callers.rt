@@ -1,4 +1,4 @@
-// Laws of who waits for whom.
+// Laws of which contexts wait for which.
 ghost use Rattle.std.specs.Prelude.{◌≡◌, ℕ, List, Some};
 ghost use Rattle.nova_guest.specs.declared.input.Input.TheVariants.{Died, Sent};
 ghost use Rattle.nova_model.specs.Boot.{Scenario, boot};
@@ -9,18 +9,18 @@ ghost use Rattle.nova_model.specs.declared.times.Deadline.{Deadline};
 ghost use Rattle.law_origins.specs.Whose.{IsInputBy};
 ghost use Rattle.law_integrity.specs.Waits.{DiesOfExit, HasCome, HasSet, IsSentOn};
 
-/// Whatever list of turns is taken from whatever boot state, one that waits for a handler's reply called it, or
-/// had its exit sent to it, in a turn of its own, by a portal that its domain held then with the right to it;
-/// and it has waited since.
+/// Whatever list of turns is taken from whatever boot state, an execution context that waits for a handler's
+/// reply called it, or had its exit sent to it, in a turn of its own. That was by a portal that its domain held
+/// then with the right to it, and it has waited since.
 pub fn callers_came_by_right()
     ensures { (scenario : Scenario) (turns : List ℕ) (caller handler : ℕ)
         → (context (run (boot scenario) turns) caller).state ≡ Calling handler
         → HasCome (boot scenario) turns caller handler }
 {}
 
-/// Whatever list of turns is taken from whatever boot state, each deadline was set by the one whose wait it
-/// limits: in a turn of its own, by a down of a semaphore to which its domain held the right then, at the moment
-/// that its registers asked for, on its own processor; and it has had it since.
+/// Whatever list of turns is taken from whatever boot state, each deadline was set by the context whose wait it limits. That was in a turn of its
+/// own, by a down of a semaphore to which its domain held the right then, at the moment that its registers asked for, on its own processor; and it
+/// has had it since.
 pub fn deadlines_were_set_by_right()
     ensures { (scenario : Scenario) (turns : List ℕ) (waiter : ℕ) (deadline : Deadline)
         → deadline_of (run (boot scenario) turns).times waiter ≡ Some deadline

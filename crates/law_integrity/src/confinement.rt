@@ -8,16 +8,15 @@ ghost use Rattle.law_origins.specs.Giving.{Acts};
 ghost use Rattle.law_integrity.specs.Confined.{AreSetsApart, AreSeparate, Holds, IsClosed, IsMadeAlong, IsMember, LeavesTo, Of, OnlyOf, Reach, ReachAny, ShareNothing, Side, grown};
 ghost use Rattle.law_integrity.specs.Secrecy.{with_bytes};
 
-/// Two sets of protection domains that are separate stay so, and neither reaches what it didn't reach. Take any reachable state, and two sets
-/// of protection domains that are separate in it: what their capabilities lead to is their own, nobody outside waits for their handlers by a
-/// call, a help or an exit, they have no domain in common, and whoever is of neither is parked, dead, or blocked for good: at a semaphore that
-/// neither may raise and no alarm rings, without a deadline. Whatever turns follow, the two sets, each with the domains that are made of it,
-/// are separate still, and whoever acts is of one of them. So a set comes to reach no frame, by no right, that it didn't reach at first; and it
-/// comes to hold no right to an object, but to objects that it made since. A turn of one set leaves of the other: registers, states and
-/// deadlines, message words, identifiers of portals, budgets of the scheduling contexts that are bound to it, semaphores to which the first
-/// holds neither up nor down, and the frames that the first doesn't reach with write. It gives the other nothing, and takes only what has an
-/// ancestor of its own; and one that waits at a semaphore that it may raise may be woken. At boot the root's domain is such a set, beside an
-/// empty one; and two closed sets are one.
+/// Two sets of protection domains that are separate stay so, and neither reaches what it didn't reach. Take any reachable state, and two sets of
+/// protection domains that are separate in it: what their capabilities lead to is their own, no context outside waits for their handlers by a call, a
+/// help or an exit, they have no domain in common, and each context of neither is parked, dead, or blocked for good: at a semaphore that neither may
+/// raise and no alarm rings, without a deadline. Whatever turns follow, the two sets, each with the domains that are made of it, are separate still,
+/// and each context that acts is of one of them. So a set comes to reach no frame, by no right, that it didn't reach at first; and it comes to hold
+/// no right to an object, but to objects that it made since. A turn of one set leaves of the other: registers, states and deadlines, message words,
+/// identifiers of portals, budgets of the scheduling contexts that are bound to it, semaphores to which the first holds neither up nor down, and the
+/// frames that the first doesn't reach with write. It gives the other nothing, and takes only what has an ancestor of its own; and a context that
+/// waits at a semaphore that it may raise may be woken. At boot the root's domain is such a set, beside an empty one; and two closed sets are one.
 pub fn closed_sets_stay_confined()
     ensures separate { (k : KernelState) (turns : List ℕ) (S T : ℕ → Bool)
         → IsReachable k
@@ -71,12 +70,11 @@ pub fn closed_sets_are_blind_to_the_rest()
         → run (with_bytes k frame bytes) turns ≡ with_bytes (run k turns) frame bytes }
 {}
 
-/// Two guests, each with its monitor, that share nothing in a reachable state: no domain, no object, no frame,
-/// neither side waits for the other, at what the other holds or where the other waits, and neither holds a
-/// scheduling context of the other. Whatever turns follow, so it stays, and whoever acts is of one of the sides. A
-/// guest and its monitor, with the domains that are made of theirs, reach no frame, by no right, that they didn't
-/// reach then. A turn of one side leaves each execution context of the other as it is, and what else the other has;
-/// it leaves each frame that the other side reached then; and it is the same whatever the bytes of that frame are.
+/// Two guests, each with its monitor, that share nothing in a reachable state stay apart. They have no domain, no object and no frame in common,
+/// neither side waits for the other, at what the other holds or where the other waits, and neither holds a scheduling context of the other. Whatever
+/// turns follow, so it stays, and each context that acts is of one of the sides. A guest and its monitor, with the domains that are made of theirs,
+/// reach no frame, by no right, that they didn't reach then. A turn of one side leaves each execution context of the other as it is, and what else
+/// the other has; it leaves each frame that the other side reached then; and it is the same whatever the bytes of that frame are.
 pub fn guests_that_share_nothing_stay_apart()
     ensures apart { (k : KernelState) (turns : List ℕ) (guest monitor other_guest other_monitor : ℕ)
         → IsReachable k

@@ -89,10 +89,10 @@ pub fn closed_sets_are_blind_to_registers_and_words()
         → DifferInWords (after (run k turns) cpu) (after l cpu) n }
 {}
 
-/// A turn is the same whatever registers, message words and frames its actor doesn't see are. Take any state, and another that differs in
-/// several things at once that who acts doesn't see: registers of others, message words that it doesn't read, bytes of frames to which no page
-/// of its domain leads. Its turn has the same event in both, and leaves two states that differ in these alone. So of two guests with their
-/// monitors that share nothing: a turn of one side is the same whatever all registers, message words and frames of the other side are.
+/// A turn is the same whatever registers, message words and frames its actor doesn't see are. Take any state, and another that differs in several
+/// things at once that the context that acts doesn't see: registers of others, message words that it doesn't read, bytes of frames to which no page
+/// of its domain leads. Its turn has the same event in both, and leaves two states that differ in these alone. So of two guests with their monitors
+/// that share nothing: a turn of one side is the same whatever all registers, message words and frames of the other side are.
 pub fn a_turn_is_the_same_over_what_it_doesnt_see()
     ensures turn { (secrets : List Secret) (k l : KernelState) (cpu ec : ℕ) → Acts k cpu ec → AreUnseen k ec secrets
         → Differ secrets k l → Differ secrets (after k cpu) (after l cpu) }

@@ -5,7 +5,7 @@ ghost use Rattle.nova_model.specs.Runs.{run};
 ghost use Rattle.law_origins.specs.Giving.{Acts};
 ghost use Rattle.law_integrity.specs.Confined.{ShareNothing};
 ghost use Rattle.law_integrity.specs.Examples.{apart, served, sides_served};
-ghost use Rattle.law_integrity.specs.Trusted.{IsWithinPolicy};
+ghost use Rattle.law_integrity.specs.Trusted.{IsWithinPolicy, unshared};
 
 /// The conditions are met, each by the run of a scenario of `examples/`, in which each side has an execution context that may act. After
 /// turn 165 of `apart.nova` the guests 10 and 17, with their monitors 6 and 13, share nothing, and each has the next turn of its
@@ -15,6 +15,6 @@ pub fn runs_come_to_the_conditions()
     ensures apart { ShareNothing (run (boot apart) (replicate 165 0)) 10 6 17 13 }
     ensures first { Acts (run (boot apart) (replicate 165 0)) 0 10 }
     ensures second { Acts (run (boot apart) (replicate 165 0)) 1 17 }
-    ensures served { IsWithinPolicy (run (boot served) (replicate 127 0)) sides_served }
+    ensures served { IsWithinPolicy unshared (run (boot served) (replicate 127 0)) sides_served }
     ensures guest { Acts (run (boot served) (replicate 127 0)) 0 9 }
 {}

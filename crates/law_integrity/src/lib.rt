@@ -1,7 +1,7 @@
-//! Integrity: whatever a turn changes, the one whose turn it is had the authority for it, by what was held
-//! in the state before. And what the definitions that authority rests on come to: who may run, what
-//! instructions see, what is made, and who waits for whom. A state is reachable where some turns make it of the
-//! boot state of some scenario. The functions do nothing: their contracts are the laws.
+//! Integrity: whatever a turn changes, the context whose turn it is had the authority for it, by what was held
+//! in the state before. And what the definitions that authority rests on come to: what may run, what
+//! instructions see, what is made, and which contexts wait for which. A state is reachable where some turns
+//! make it of the boot state of some scenario. The functions do nothing: their contracts are the laws.
 #![tactic(auto)]
 
 mod callers;

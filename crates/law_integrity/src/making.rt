@@ -13,14 +13,13 @@ ghost use Rattle.law_origins.specs.Reachable.{IsReachable};
 ghost use Rattle.law_origins.specs.Giving.{Acts};
 ghost use Rattle.law_integrity.specs.Births.{Asks, AsksOpening, IsAs, call_for};
 
-/// An object that is made is the one that its maker's registers ask for, and the maker may have it made.
-/// Where delegations are a sound forest, a hypercall that asks so is not refused: it makes that object, and so
-/// does the turn of a thread whose next instruction is this hypercall. So it is of a protection domain that is
-/// made and given a first range. And in each reachable state
-/// the object of the next number is then what was asked for: an execution context is of
-/// the named domain, processor, kind and event base, with the given x2, pc 0 and all other registers 0,
-/// without a recall, and parked or before its startup exit; a portal has the named handler, descriptor and
-/// beginning, and identifier 0; a semaphore has the given counter, and nobody waits.
+/// An object that is made is as its maker's registers ask for, and the maker may have it made. Where
+/// delegations are a sound forest, a hypercall that asks so is not refused: it makes that object, and so does
+/// the turn of a thread whose next instruction is this hypercall. So it is of a protection domain that is made
+/// and given a first range. And in each reachable state the object of the next number is then what was asked
+/// for: an execution context is of the named domain, processor, kind and event base, with the given x2, pc 0
+/// and all other registers 0, without a recall, and parked or before its startup exit; a portal has the named
+/// handler, descriptor and beginning, and identifier 0; a semaphore has the given counter, and none waits.
 pub fn objects_are_made_as_asked()
     ensures asked { (k : KernelState) (caller call target : ℕ) (made : NewObject)
         → deed k caller ≡ Makes call target made

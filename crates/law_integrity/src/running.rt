@@ -1,4 +1,4 @@
-// Laws of who may run, and who pays.
+// Laws of what may run, and what pays.
 ghost use Rattle.std.specs.Prelude.{◌↔◌, ℕ};
 ghost use Rattle.std.specs.List.{Contains};
 ghost use Rattle.nova_model.specs.Capabilities.{is_local};
@@ -10,16 +10,16 @@ ghost use Rattle.law_origins.specs.Giving.{Acts};
 ghost use Rattle.law_integrity.specs.Runnable.{IsRunnable};
 ghost use Rattle.law_integrity.specs.Waits.{HasLocalEdges, PaysItself};
 
-/// In each reachable state, the candidates of a processor are exactly its
-/// scheduling contexts whose turns lead, along edges from the one that they are bound to, to one that acts.
+/// In each reachable state, the candidates of a processor are exactly its scheduling contexts whose turns lead,
+/// along edges from the context that they are bound to, to a context that acts.
 pub fn who_may_run_is_a_candidate()
     ensures { (k : KernelState) (cpu : ℕ) (c : Candidate)
         → IsReachable k
         → Contains (candidates k cpu) c ↔ IsRunnable k cpu c }
 {}
 
-/// In each reachable state, edges lead to local threads; so a turn in which
-/// another acts, a virtual CPU for one, is paid by a scheduling context that is bound to that one itself.
+/// In each reachable state, edges lead to local threads. So a turn in which another acts, a virtual CPU for
+/// one, is paid by a scheduling context that is bound to that context itself.
 pub fn only_handlers_are_paid_for()
     ensures edges { (k : KernelState) → IsReachable k
         → HasLocalEdges k }

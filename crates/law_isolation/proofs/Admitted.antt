@@ -96,7 +96,7 @@ given_admitted k pd d whole ranged aligned = by_test (is_memory_of pd d) refl
         (map_ranged (length k.memory.ram) pd d is ranged aligned, contents_admitted d.target d.order k.memory.ram whole (ranged.sort memory))
     by_test false is = tt
 
--- one that goes was a range of pages
+-- a map that goes was a range of pages
 taken_admitted : (k : KernelState) (pd : ℕ) (d : Derivation) → IsRanged (length k.memory.ram) d → IsAligned d → IfSome (only_if (is_memory_of pd d) (input_as.Taken d.base d.order)) IsInput
 taken_admitted k pd d ranged aligned = by_test (is_memory_of pd d) refl
   where

@@ -35,12 +35,12 @@ use Rattle.law_isolation.proofs.Runs.{turn_is_one}
 use Rattle.law_isolation.proofs.Seen.{maps_at, view_is}
 use Rattle.law_isolation.proofs.Spaces.{cell_of}
 
--- of maps one goes: it is one of them, and the others have none of its pages
+-- a map goes: it is one of `maps`, and the others have none of its pages
 pub record IsGoing (base order : ℕ) (maps : List Map) : Type 0 where
   pub there : list_any (is_map base order) maps ≡ true
   pub pages : list_any (overlaps base order) (filter (λ m. not (is_map base order m)) maps) ≡ false
 
--- what a map that comes brings is what its frames hold, and one that goes is there
+-- what a map that comes brings is what its frames hold, and a map that goes is there
 abbrev pub IsOfState : KernelState → ℕ → Option Input → Type 0
 IsOfState k pd (Some (input_as.Given base order rights frame contents)) = contents ≡ contents_of k.memory.ram frame order
 IsOfState k pd (Some (input_as.Taken base order)) = IsGoing base order (maps_of pd k.delegations.list)

@@ -78,7 +78,7 @@ call_holds k ec g selector flag sound is =
     by_admit pt portal Help = tt
     by_admit pt portal Send = handler_apart k (pd_of k ec) call_right selector pt g sound is portal
 
--- one that replies lives, and its caller waits for it
+-- a handler that replies lives, and its caller waits for it
 lives : (k : KernelState) (ec : ℕ) → is_dead (Some (context k ec).state) ≡ false → is_dead (state_in k.contexts ec) ≡ false
 lives k ec h = by_entry (context_at k ec) h
   where
@@ -113,7 +113,7 @@ reply_holds k ec g sound is asking =
     by_caller None keeps = tt
     by_caller (Some c) keeps = caller_waits k ec g c.0 c.1 sound is (asking_lives (context k ec).state asking) keeps
 
--- who waits at a semaphore is no virtual CPU
+-- a context that waits at a semaphore is no virtual CPU
 blocked_apart : (k : KernelState) (sm w g : ℕ) → HasPremises k → IsGuest k g → waits k.semaphores sm w ≡ true → w ≢ g
 blocked_apart k sm w g sound is wait own =
     subst IsGuestState (same_Some (context k g).state (Blocked sm) (sym (state_in_there k g is.there) ∙ (ap (state_in k.contexts) (sym own) ∙ sound.blocked sm w wait))) is.runs

@@ -40,9 +40,9 @@ pub record IsGuest (k : KernelState) (g : ℕ) : Type 0 where
   pub there : IsSome (context_at k g)
   pub runs : IsGuestState (context k g).state
 
--- Delegations are a sound forest, and all is whole. A portal leads to a thread. Who waits for a reply is kept as the caller of the one that is to
--- reply; one that lives is waited for by the caller that it keeps; and who came by a call is a thread. Who waits at a semaphore is blocked there,
--- and so is one whose wait an alarm or its deadline ends.
+-- Delegations are a sound forest, and all is whole. A portal leads to a thread. A context that waits for a reply is kept as the caller of the handler
+-- that is to reply; a handler that lives is waited for by the caller that it keeps; and a caller that came by a call is a thread. A context that
+-- waits at a semaphore is blocked there, and so is a context whose wait an alarm or its deadline ends.
 pub record HasPremises (k : KernelState) : Type 0 where
   pub forest : IsForest k.delegations
   pub whole : IsWhole k

@@ -138,7 +138,7 @@ cells_left maps left n (bytes ∷ ram) fewer = by_tests (is_covered left n) refl
 
 -- WHAT A DERIVATION THAT GOES LEAVES OF THEM
 
--- each of its space is that one, or shares no page with it
+-- each derivation of its space is the leaf, or shares no page with it
 one_or_apart : (pd : ℕ) (f : Delegations) (leaf d : Derivation) → IsForest f → IsIn f.list leaf → is_memory_of pd leaf ≡ true → IsIn f.list d → is_memory_of pd d ≡ true →
     (d ≡ leaf) ⊎ MapsApart (map_of leaf) (map_of d)
 one_or_apart pd f leaf d forest there is i of_ = by_pair (pairs_at SameSpaceApart f.list leaf d forest.apart there i)

@@ -114,7 +114,7 @@ other_turn k ec g sound is ne =
           (ap (λ (i : Option Input). (answered (view k g) i).out) same ∙ quiet k ec g (view k g) (deed k ec));
     }
 
--- whoever acts
+-- whichever context acts
 pub one_input : (k : KernelState) (ec g : ℕ) → HasPremises k → IsGuest k g → IsOneInput k (done k ec (deed k ec)) ec g (deed k ec)
 one_input k ec g sound is = elim (cases_eq ec g) [
   | inl same ↦ subst (λ (n : ℕ). IsOneInput k (done k n (deed k n)) n g (deed k n)) (sym same) (own_turn k g sound is)

@@ -22,7 +22,7 @@ use Rattle.nova_model.specs.declared.event.EventKind.{EventKind}
 use Rattle.nova_model.specs.declared.event.EventKind.TheVariants.{Raise}
 use Rattle.nova_model.specs.declared.log.LogByte.{LogByte}
 
--- what the guest alone makes of an input; without one it stays as it is and puts out nothing
+-- what the guest alone makes of an input; without an input it stays as it is and puts out nothing
 abbrev pub answered : Guest → Option Input → Told
 answered v None = told v None
 answered v (Some i) = applied v i
@@ -48,7 +48,7 @@ byte_of frames b = out.Byte (frames + b.console) b.value
 abbrev pub bytes_of : ℕ → List LogByte → List Out
 bytes_of frames log = map (byte_of frames) log
 
--- the log gains what is put out, where so many frames are RAM
+-- the log gains what is put out, where `frames` frames are RAM
 pub record IsLogged (frames : ℕ) (old new : List LogByte) (o : Option Out) : Type 0 where
   pub gained : List LogByte
   pub log : new ≡ old ++ gained

@@ -6,7 +6,7 @@ use Rattle.nova_range.specs.Mtds.{names}
 use Rattle.nova_range.specs.declared.mtd.Mtd.{Mtd}
 use Rattle.nova_range.specs.declared.mtd.TheConstants.Mtd.{PC, LOW, HIGH}
 
--- No group but pc, x1 to x15 and x16 to x31 is named. The words are pc, one that is 0, and x1 to x31; those of a group that isn't named are 0.
+-- No group but pc, x1 to x15 and x16 to x31 is named. The words are pc, a word that is 0, and x1 to x31; those of a group that isn't named are 0.
 pub record IsMasked (mtd : Mtd) (words : List ℕ) : Type 0 where
   pub groups : bit_and mtd.0 14 ≡ mtd.0
   pub count : length words ≡ 33

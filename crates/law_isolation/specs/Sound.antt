@@ -32,7 +32,7 @@ pub record IsSound (k : KernelState) : Type 0 where
 abbrev pub IsVirtual : KernelState → ℕ → Type 0
 IsVirtual k g = IsOf k.objects is_vcpu g
 
--- a derivation has a range; one of memory leads to frames below 2^32, all of them in RAM or none, where so many are
+-- a derivation has a range; a derivation of memory leads to frames below 2^32, all of them in RAM or none, where `frames` frames are
 pub record IsRanged (frames : ℕ) (d : Derivation) : Type 0 where
   pub range : IsRange (range_of d)
   pub last : is_memory d.kind ≡ true → d.target + 2 ^ d.order ≤ 2 ^ 32

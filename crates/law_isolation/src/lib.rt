@@ -40,18 +40,18 @@ pub fn a_guests_own_turn_is_its_own_alone()
     ensures { (k : KernelState) (g : ℕ) → IsSound k → IsVirtual k g → IsOneInput k (done k g (deed k g)) g g (deed k g) }
 {}
 
-/// A turn of another execution context is one input of a virtual CPU, or nothing for it: a recall of it, a
-/// reply to its exit that completes, a store to a frame of its memory, or a memory derivation that is made
-/// in its protection domain or taken from it by a revoke. Nothing else that another does changes the view.
+/// A turn of another execution context is one input of a virtual CPU, or nothing for it. The input is a recall
+/// of it, a reply to its exit that completes, a store to a frame of its memory, or a memory derivation that is
+/// made in its protection domain or taken from it by a revoke. Nothing else that another does changes the view.
 /// The guest puts out nothing.
 pub fn a_turn_of_another_is_an_input_or_nothing()
     ensures { (k : KernelState) (ec g : ℕ) → IsSound k → IsVirtual k g → ec ≢ g → IsOneInput k (done k ec (deed k ec)) ec g (deed k ec) }
 {}
 
-/// A turn of a processor, whoever acts in it, leaves of the view of a virtual CPU what the guest alone makes
-/// of the one input that the turn is for it, or the same view where it is nothing. What the guest alone
-/// puts out then is what the turn shows: an exit in its event, a byte at the end of the log. A turn of
-/// another shows nothing of it.
+/// A turn of a processor, whichever context acts in it, leaves of the view of a virtual CPU what the guest
+/// alone makes of the single input that the turn is for it, or the same view where it is nothing. What the
+/// guest alone puts out then is what the turn shows: an exit in its event, a byte at the end of the log. A turn
+/// of another shows nothing of it.
 pub fn a_turn_is_one_input_of_a_guest_alone()
     ensures { (k : KernelState) (cpu g : ℕ) → IsSound k → IsVirtual k g → IsOneTurn k cpu g }
 {}
@@ -73,8 +73,8 @@ pub fn a_reply_is_the_groups_that_it_names()
         → alone_written_back (reply_groups m) (reply_words m) r ≡ written_back m r }
 {}
 
-/// The bytes that come with a map are those of the frames that it leads to: where the view has a cell of
-/// one of them already, that cell has the same bytes.
+/// The bytes that come with a map are those of the frames that it leads to. Where the view has a cell of one of
+/// them already, that cell has the same bytes.
 pub fn what_is_given_is_in_the_frames()
     ensures { (k : KernelState) (cpu g : ℕ) → IsSound k → IsVirtual k g → IsGivenAsSeen (view k g) (input k cpu g) }
 {}
@@ -85,11 +85,11 @@ pub fn what_is_taken_leaves_no_page()
     ensures { (k : KernelState) (cpu g : ℕ) → IsSound k → IsVirtual k g → IsTakenAsSeen (view k g) (view (after k cpu) g) (input k cpu g) }
 {}
 
-/// What the guest alone asks of a guest and of an input holds of each view and of each turn's input: maps
-/// are ranges of pages that share none and lead to frames below 2^32, cells are whole, a map comes with the
-/// bytes of all its frames or with none, one that goes is a range of pages, and what another stores lies
-/// within a frame. It stands on derivations being ranges, which a kernel of at most 2^14 RAM frames, 16
-/// consoles and 2^20 - 3 sources begins with and each turn keeps.
+/// What the guest alone asks of a guest and of an input holds of each view and of each turn's input. Maps are
+/// ranges of pages that share none and lead to frames below 2^32, cells are whole, a map comes with the bytes
+/// of all its frames or with none, a map that goes is a range of pages, and what another stores lies within a
+/// frame. It stands on derivations being ranges, which a kernel of at most 2^14 RAM frames, 16 consoles and
+/// 2^20 - 3 sources begins with and each turn keeps.
 pub fn views_and_inputs_are_admitted()
     ensures begins { (scenario : Scenario) → scenario.ram ≤ 14 → scenario.consoles ≤ 16 → length scenario.sources ≤ 2 ^ 20 - 3 → AreRanges (boot scenario) }
     ensures turns { (k : KernelState) (cpu : ℕ) → IsSound k → AreRanges k → AreRanges (after k cpu) }
@@ -98,8 +98,8 @@ pub fn views_and_inputs_are_admitted()
 {}
 
 /// The guest alone takes all views and inputs, along every list of turns from every boot state of at most 2^14
-/// RAM frames, 16 consoles and 2^20 - 3 sources: each view is one that it takes, and each input of a list of
-/// turns from there is one that it takes too, so that a caller may chain them.
+/// RAM frames, 16 consoles and 2^20 - 3 sources. It takes each view, and each input of a list of turns from
+/// there too, so that a caller may chain them.
 pub fn views_and_inputs_of_runs_are_admitted()
     ensures ranges { (scenario : Scenario) (turns : List ℕ) → scenario.ram ≤ 14 → scenario.consoles ≤ 16 → length scenario.sources ≤ 2 ^ 20 - 3 → AreRanges (run (boot scenario) turns) }
     ensures views { (scenario : Scenario) (turns : List ℕ) (g : ℕ) → scenario.ram ≤ 14 → scenario.consoles ≤ 16 → length scenario.sources ≤ 2 ^ 20 - 3
@@ -108,7 +108,7 @@ pub fn views_and_inputs_of_runs_are_admitted()
         → All IsInput (inputs (run (boot scenario) turns) later g) }
 {}
 
-/// What these laws ask of a state always holds: a kernel begins so, each turn keeps it, so that it holds of
+/// What these laws ask of a state always holds. A kernel begins so, each turn keeps it, so that it holds of
 /// whatever a kernel comes to, and a virtual CPU stays one. Delegations are a sound forest; tables, edges,
 /// callers and virtual CPUs are as turns keep them; and frames have 4,096 bytes, messages 128 words, and
 /// register files 32 registers.
@@ -126,7 +126,7 @@ pub fn a_run_is_a_guest_alone_over_its_inputs()
         → view (run k turns) g ≡ alone (view k g) (inputs k turns g) }
 {}
 
-/// What the guest alone puts out over its inputs is what the turns show: its exits are the exits that the
+/// What the guest alone puts out over its inputs is what the turns show. Its exits are the exits that the
 /// virtual CPU raises in the trace, and its bytes are those that the log gains in its turns, in order; the
 /// number of RAM frames and the console's are the frame of each.
 pub fn what_a_guest_puts_out_is_shown()
@@ -145,17 +145,17 @@ pub fn equal_inputs_end_equal()
         → view k g ≡ view l h → inputs k turns g ≡ inputs l others h → raises_in g (trace k turns) ≡ raises_in h (trace l others) }
 {}
 
-/// What a turn is for a virtual CPU is an input that its state admits, so that an input says no more than
-/// the guest sees. It acts where it is fresh or ready; its exit is sent where it has one, and ends it where
-/// it has one or waits; a reply comes where it waits; a store of another goes to one of its cells; a map that
-/// comes overlaps none that it has; and one that goes is there.
+/// What a turn is for a virtual CPU is an input that its state admits, so that an input says no more than the
+/// guest sees. It acts where it is fresh or ready; its exit is sent where it has one, and ends it where it has
+/// one or waits; a reply comes where it waits; a store of another goes to one of its cells; a map that comes
+/// overlaps none that it has; and a map that goes is there.
 pub fn an_input_is_one_that_the_guest_admits()
     ensures { (k : KernelState) (cpu g : ℕ) → IsSound k → IsVirtual k g → IfSome (input k cpu g) (λ i. admits (view k g) i ≡ true) }
 {}
 
-/// A reply tells a guest the groups that it names and nothing else. No group but pc, x1 to x15 and x16 to
-/// x31 is named; there are 33 words, pc, one that is 0, and x1 to x31; and those of a group that isn't named
-/// are 0.
+/// A reply tells a guest the groups that it names and nothing else. No group but pc, x1 to x15 and x16 to x31
+/// is named; there are 33 words, pc, a word that is 0, and x1 to x31; and those of a group that isn't named are
+/// 0.
 pub fn a_reply_tells_the_groups_that_it_names_alone()
     ensures words { (m : List ℕ) → length m ≡ 128 → IsMasked (reply_groups m) (reply_words m) }
     ensures inputs { (k : KernelState) (cpu g : ℕ) → IsSound k → IfSome (input k cpu g) IsMaskedIn }
@@ -174,10 +174,11 @@ pub fn outputs_are_what_trace_states_and_log_show()
         → filter is_byte (outputs (view k g) (inputs k turns g)) ≡ bytes k turns g }
 {}
 
-/// Take any two boot states, any two lists of turns, a place in each, and a virtual CPU in each, with
-/// equal views at these places and equal inputs from there. Then their views at the ends are equal, and so
-/// is what they put out, with both qualifications and every byte, and what trace, states and log show of
-/// them. Other domains may revoke, delegate, help and store in any way between.
+/// Two virtual CPUs with equal views at a place of their runs, and equal inputs from there, are alike. Take any
+/// two boot states, any two lists of turns, a place in each, and a virtual CPU in each, with equal views at
+/// these places and equal inputs from there. Then their views at the ends are equal, and so is what they put
+/// out, with both qualifications and every byte, and what trace, states and log show of them. Other domains may
+/// revoke, delegate, help and store in any way between.
 pub fn two_runs_with_equal_inputs_are_alike()
     ensures { (a b : Stretch) → BeginEqual a b → EndEqual a b }
 {}

@@ -62,7 +62,7 @@ named_local : (k : KernelState) (domain right selector pt : ℕ) → HasTables k
 named_local k domain right selector pt tables is =
     portal_local k pt tables (subst (IfDone (IsNamedAt k domain selector right is_pt)) is (named_at k domain is_pt right selector)).object
 
--- a handler for which one waits by a deed is a local thread
+-- a handler for which a context waits by a deed is a local thread
 abbrev Aims : KernelState → Deed → Type 0
 Aims k (Waits handler reason q0 q1) = IsOf k.objects is_local handler
 Aims k (Sends handler ip identifier mtd reason q0 q1) = IsOf k.objects is_local handler
@@ -152,7 +152,7 @@ new_free n (new.Sm count) = refl
 
 -- A DEED
 
--- the one that acts
+-- the context that acts
 changed_aimed : (k : KernelState) (x : EcState) (d : Deed) → Aims k d → IsAimed k.objects x → IsAimed k.objects (actor_after x d)
 changed_aimed k x (Waits handler reason q0 q1) aims aimed h leads = subst (IsOf k.objects is_local) (same_Some handler h leads) aims
 changed_aimed k x (Sends handler ip identifier mtd reason q0 q1) aims aimed h leads = subst (IsOf k.objects is_local) (same_Some handler h leads) aims
@@ -203,7 +203,7 @@ joined_aimed os n cs (Some made) all = more_aimed os (object_of made) cs (contex
 abbrev Aimed : KernelState → Type 0
 Aimed k = AreAimed k.objects k.contexts
 
--- one whose wait ends waits for nobody
+-- a context whose wait ends waits for none
 passed_aimed : (os : List Object) (cs : Contexts) (o : Option (ℕ × Status)) → AreAimed os cs → AreAimed os (all_edited cs (ends_by o))
 passed_aimed os cs None all = all
 passed_aimed os cs (Some (w, status)) all = set_aimed os cs w _ (λ h leads. absurd (cc)) all

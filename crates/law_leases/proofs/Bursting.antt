@@ -51,7 +51,7 @@ pub record IsStepped (k : KernelState) (cpu : ℕ) (c : Candidate) (b : Budget) 
   pub seen : view new c.actor ≡ (applied (view k c.actor) Own).guest
   pub covers : IsRamOf (maps_at k c.actor) k.memory.ram ram
 
--- where nothing is due the chosen one acts
+-- where nothing is due the chosen context acts
 pub acts_now : (k : KernelState) (cpu n : ℕ) (c : Candidate) (b : Budget) → IsLeasable k cpu c b → IsEarly k.times cpu (suc n) → next_to_act k cpu ≡ Some c
 acts_now k cpu n c b may early = acts_next k cpu c may.chosen (early_calm k.times cpu n early)
 
@@ -83,7 +83,7 @@ midway_context : (k : KernelState) (cpu : ℕ) (c : Candidate) (b : Budget) (reg
     context (midway k cpu c b regs ram fs) c.actor ≡ record (context k c.actor) { regs = regs }
 midway_context k cpu c b regs ram fs there = ap context_in (entry_itself k.contexts c.actor (record (context k c.actor) { regs = regs }) there)
 
--- nobody's state changes and no stamp, so that who is chosen stays chosen
+-- no context's state changes and no stamp, so that the chosen scheduling context stays chosen
 pub choice_stays : (k : KernelState) (cpu : ℕ) (c : Candidate) (b : Budget) (regs : Registers) (ram : List (List ℕ)) (fs : List ℕ) → IsSound k → IsLeasable k cpu c b →
     choice (midway k cpu c b regs ram fs) cpu ≡ Some c
 choice_stays k cpu c b regs ram fs sound may =

@@ -1,4 +1,4 @@
--- Whoever is chosen stays chosen, where registers, memory and counts alone change, and each budget keeps its stamp.
+-- The chosen scheduling context stays chosen, where registers, memory and counts alone change, and each budget keeps its stamp.
 use Rattle.std.proofs.Common.{◌≡◌, ℕ, ◌+◌, List, [], ◌∷◌, inl, inr, ap, ap₂, sym, ◌∙◌, subst, refl}
 use Rattle.std.specs.Prelude.{Bool, ◌==◌, ◌&&◌, slice_get, slice_set, Option, Some, None, option_map, if◌then◌else◌}
 use Rattle.std.proofs.lemmas.Bool.{cases_eq}
@@ -44,7 +44,7 @@ unfolding choice
 choice_same k new cpu same =
     ap foremost (ap (λ (os : List Object). candidates_from new cpu 0 os) same.objects ∙ candidates_same k new cpu 0 k.objects same)
 
--- one whose state stays moves no turns
+-- a context whose state stays moves no turns
 states_stay : (cs : Contexts) (g : ℕ) (x y : EcState) → entry (slice_get cs g) ≡ Some x → y.state ≡ x.state → (e : ℕ) → state_in (slice_set cs g (Some y)) e ≡ state_in cs e
 states_stay cs g x y there same e = elim (cases_eq e g) [
   | inl here ↦ subst (λ (n : ℕ). state_in (slice_set cs g (Some y)) n ≡ state_in cs n) (sym here)

@@ -87,7 +87,7 @@ virtual_on g cpu (Some (Pt ec mtd ip)) is at = absurd (cc)
 virtual_on g cpu (Some Sm) is at = absurd (cc)
 virtual_on g cpu None is at = absurd (cc)
 
--- who acts on a processor is one of its
+-- the context that acts on a processor is one of its
 leased_on : (k : KernelState) (cpu : ℕ) (c : Candidate) (b : Budget) → IsSound k → IsLeasable k cpu c b → IsOn k c.actor cpu
 leased_on k cpu c b sound may =
     let at = virtual_on c.actor cpu (slice_get k.objects c.actor) may.guest
@@ -116,7 +116,7 @@ still_free : (k l : KernelState) (g : ℕ) → view l g ≡ view k g → (contex
 still_free k l g same free =
     sym (ap (λ (v : Guest). v.recall) (view_is l g)) ∙ (ap (λ (v : Guest). v.recall) same ∙ (ap (λ (v : Guest). v.recall) (view_is k g) ∙ free))
 
--- the payer of the one that is leased, as its own
+-- the payer of the virtual CPU that is leased, as its own
 own_payer : (k : KernelState) (cpu : ℕ) (c : Candidate) (b : Budget) → IsReached k → IsLeasable k cpu c b → (its : HasSchedule k cpu c) →
     IsPayer k cpu c.sc c.actor its.priority its.quantum b
 own_payer k cpu c b is may its = record {
@@ -224,7 +224,7 @@ may_commit k turns lease d stems same chosen acts =
       runs = subst (λ (v : Guest). IsStepping v lease.steps) (ap (view k) (sym stems.actor) ∙ (sym f.same.view ∙ ap (view (run k turns)) (sym one))) stems.runs;
     }
 
--- it leaves as many turns, each a plain step of the leased one that the chosen pays
+-- it leaves as many turns, each a plain step of the leased virtual CPU that the chosen scheduling context pays
 pub commits : (l : KernelState) (lease : LeaseRun) (d : Candidate) (b : Budget) → MayCommit l lease d b →
     run l (replicate lease.steps.count lease.cpu) ≡ advanced_to l lease.cpu d b lease.steps
 commits l lease d b is = steps_advance l lease.cpu d b lease.steps is.state.sound is.may is.left is.early is.runs

@@ -1,4 +1,4 @@
--- Who acts in a turn is on its processor.
+-- The context that acts in a turn is on its processor.
 use Rattle.std.proofs.Common.{◌≡◌, ℕ, zero, suc, ◌+◌, List, ap, sym, ◌∙◌, subst, refl}
 use Rattle.std.specs.Prelude.{Bool, true, false, ◌==◌, ◌&&◌, slice_get, Option, Some, None, IfSome, option_map, option_and_then, if◌then◌else◌}
 use Rattle.std.proofs.lemmas.Option.{same_Some}
@@ -46,7 +46,7 @@ way_home (suc n) cs e f sound way = by_edge (edge cs e) refl way (λ h way. way_
 pub chase_home : (cs : Contexts) (e : ℕ) → AreEdges cs → cpu_in cs (chase cs e) ≡ cpu_in cs e
 chase_home cs e sound = let end = chases_end cs e sound in way_home end.edges cs e (chase cs e) sound end.way
 
--- the chosen one's turns go to who acts
+-- the chosen scheduling context's turns go to the context that acts
 with_actor : (sc who priority : ℕ) (b : Option Budget) (c : Candidate) → candidate_with sc who priority b ≡ Some c → c.actor ≡ who
 with_actor sc who priority (Some b) c is = ap (λ (d : Candidate). d.actor) (sym (same_Some _ c is))
 with_actor sc who priority None c is = absurd (cc)

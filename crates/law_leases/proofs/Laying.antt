@@ -33,7 +33,7 @@ ram_itself maps ram = record { long = refl; others = λ f h. refl }
 pub ram_through : (maps : List Map) (a b c : List (List ℕ)) → IsRamOf maps a b → IsRamOf maps b c → IsRamOf maps a c
 ram_through maps a b c p q = record { long = q.long ∙ p.long; others = λ f h. q.others f h ∙ p.others f h }
 
--- a store of one who has these maps
+-- a store of a guest that has these maps
 put_ram : (maps : List Map) (m : Memory) (f o w v : ℕ) (b : Option (List ℕ)) → is_covered maps f ≡ true → IsRamOf maps m.ram (written_in m b f o w v).ram
 put_ram maps m f o w v None covered = ram_itself maps m.ram
 put_ram maps m f o w v (Some b) covered = record {

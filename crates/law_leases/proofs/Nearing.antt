@@ -1,4 +1,4 @@
--- A turn of another processor brings nothing nearer that is to come on this one.
+-- A turn of another processor brings nothing nearer that is to come on this processor.
 use Rattle.std.proofs.Common.{◌≡◌, ◌≢◌, ℕ, zero, suc, ◌+◌, ◌-◌, ◌≤◌, List, [], ◌∷◌, refl, sym, ap, ◌∙◌, subst, inl, inr}
 use Rattle.std.specs.Prelude.{◌⊎◌, slice_get, slice_index, slice_set, IsSome, Option, Some, None, option_map}
 use Rattle.std.proofs.lemmas.Option.{same_Some}
@@ -53,7 +53,7 @@ brings_none t new cpu n b early =
       deadlines = λ ec d is here. subst (λ (now : ℕ). n ≤ d.at - now) (sym b.clocks) (far.deadlines ec d (b.deadlines ec d is here) here);
     })
 
--- one that acts sets a deadline of its own processor alone
+-- a context that acts sets a deadline of its own processor alone
 deed_sets : (k : KernelState) (ec p cpu : ℕ) (d : Deed) → Asks k ec d → processor_of k ec ≡ p → p ≢ cpu → (n : ℕ) (x : Deadline) →
     entry (slice_get (deadlines_with k.times.deadlines (deadline_by ec d)) n) ≡ Some x → x.cpu ≡ cpu → entry (slice_get k.times.deadlines n) ≡ Some x
 deed_sets k ec p cpu (Ups sm None) asks home ne n x is here = is

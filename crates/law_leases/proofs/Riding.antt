@@ -1,4 +1,4 @@
--- n instructions of whoever acts on a processor, each of which goes on, and then n turns charged, are n turns of that processor.
+-- n instructions of the context that acts on a processor, each of which goes on, and then n turns charged, are n turns of that processor.
 use Rattle.std.proofs.Common.{◌≡◌, ℕ, zero, suc, ◌+◌, ◌-◌, ◌^◌, ◌<◌, ◌≤◌, ◌++◌, List, [], ◌∷◌, length, replicate, ap, ap₂, sym, ◌∙◌, subst, refl, arith}
 use Rattle.std.specs.Prelude.{Bool, true, false, ◌==◌, ◌&&◌, if◌then◌else◌, is_some, nat_lt, nat_le, slice_get, slice_set, slice_index, Option, Some, None, IfSome, IsSome, option_and_then, option_map}
 use Rattle.nova_guest.specs.declared.input.Input.{Input}

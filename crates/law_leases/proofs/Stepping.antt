@@ -104,7 +104,7 @@ done_plain k g is p =
       memory = record { ram = ram_after k g p.store; log = log_stays k g is p i };
     }))
 
--- WHOM IT STIRS
+-- WHICH VIRTUAL CPUS IT STIRS
 
 -- the frame of its store, as the kernel and as the guest have it
 abbrev kernel_frame : KernelState → ℕ → Option Store → Option ℕ

@@ -1,4 +1,4 @@
--- Each of these turns is a plain step, of the same one and paid by the same scheduling context.
+-- Each of these turns is a plain step, of the same virtual CPU and paid by the same scheduling context.
 use Rattle.law_turns.specs.Moments.{IsEarly}
 use Rattle.law_forest.proofs.Actors.{chosen_answers}
 use Rattle.law_forest.proofs.Turning.{event_answered, event_at, event_in}

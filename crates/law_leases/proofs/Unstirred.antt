@@ -64,7 +64,7 @@ apart_no k cpu g c chosen ne =
     ap (λ (o : Option Candidate). is_own (input_by k g o)) chosen
     ∙ (ap (λ (t : Bool). is_own (if t then own_input (deed k c.actor) else others_input k c.actor g (deed k c.actor))) (ne_eqb c.actor g ne) ∙ others_no k c.actor g (deed k c.actor))
 
--- and neither is a turn of nobody
+-- and neither is a turn in which none acts
 pub nobody_no : (k : KernelState) (cpu g : ℕ) → next_to_act k cpu ≡ None → is_own (input k cpu g) ≡ false
 unfolding input
 nobody_no k cpu g none = ap (λ (o : Option Candidate). is_own (input_by k g o)) none

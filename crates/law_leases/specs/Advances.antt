@@ -23,7 +23,7 @@ use Rattle.law_isolation.specs.Sound.{IsVirtual}
 
 -- THE GUEST ALONE
 
--- the guest after so many inputs of its own
+-- the guest after `n` inputs of its own
 abbrev pub own_after : ℕ → Guest → Guest
 own_after n v = alone v (replicate n Own)
 
@@ -37,14 +37,14 @@ frame_stored_to v s = option_and_then (with_cell v.cells) (frame_from (page_in v
 abbrev pub next_frame : Guest → Option ℕ
 next_frame v = option_and_then (frame_stored_to v) (store_of (one v.regs (guest_space v.maps v.cells)))
 
--- the frames to which so many inputs of its own store, one a store, in order
+-- the frames to which `n` inputs of its own store, one a store, in order
 abbrev pub frames_stored : ℕ → Guest → List ℕ
 frames_stored zero v = []
 frames_stored (suc n) v = in_front (next_frame v) (frames_stored n (applied v Own).guest)
 
 -- THE KERNEL
 
--- so many turns are paid: so many ticks more, and so many turns less of what is left. Where nothing is left the quantum begins anew, with the next stamp.
+-- `n` turns are paid: `n` ticks more, and `n` turns less of what is left. Where nothing is left the quantum begins anew, with the next stamp.
 abbrev pub is_used : ℕ → Budget → Bool
 is_used n b = nat_lt 0 n && nat_le b.left n
 
@@ -90,7 +90,7 @@ advanced_by k cpu c b n regs ram frames = changed_by k cpu c.sc c.actor n regs r
     (budget_used (is_used n b) n (quantum_in (slice_get k.objects c.sc)) k.next_stamp b) (stamp_after (is_used n b) k.next_stamp)
     (raised_from k c.actor frames 0 k.stirs.guests)
 
--- the state after n inputs of its own of the one who acts
+-- the state after `n` inputs of its own of the context that acts
 abbrev pub advanced : KernelState → ℕ → Candidate → Budget → ℕ → KernelState
 advanced k cpu c b n = advanced_by k cpu c b n (own_after n (view k c.actor)).regs
     (laid_over 0 (own_after n (view k c.actor)).cells k.memory.ram) (frames_stored n (view k c.actor))
@@ -99,7 +99,8 @@ advanced k cpu c b n = advanced_by k cpu c b n (own_after n (view k c.actor)).re
 abbrev pub step_of : ℕ → Candidate → Event
 step_of cpu c = record { cpu = cpu; sc = c.sc; ec = c.actor; kind = Step; a = 0; b = 0 }
 
--- where a burst may begin: the one who acts is a virtual CPU that is about to take an instruction, and the chosen scheduling context has this budget
+-- where a burst may begin: the context that acts is a virtual CPU that is about to take an instruction, and the chosen scheduling context has this
+-- budget
 pub record IsLeasable (k : KernelState) (cpu : ℕ) (c : Candidate) (b : Budget) : Type 0 where
   pub chosen : choice k cpu ≡ Some c
   pub guest : IsVirtual k c.actor

@@ -36,8 +36,8 @@ pub record IsReached (k : KernelState) : Type 0 where
   pub sound : IsSound k
   pub single : IsSingle k
 
--- so many turns of a processor may be taken at once: the one who acts may be leased with this budget, these are its steps, and they are no more than what
--- is left of the quantum, and than what is left until something is due
+-- the turns of `s` may be taken at once on a processor: the context that acts may be leased with this budget, these are its steps, and they are no
+-- more than what is left of the quantum, and than what is left until something is due
 pub record MayAdvance (k : KernelState) (cpu : ℕ) (s : Steps) : Type 0 where
   pub chosen : Candidate
   pub budget : Budget
@@ -80,7 +80,8 @@ abbrev pub commit_done : KernelState → LeaseRun → ℕ → CommitDone
 commit_done k l left =
     if same_counts l.kept (stirs_now k l.guest l.cpu) then by_actor l left (choice k l.cpu) else Dropped l.kept (stirs_now k l.guest l.cpu)
 
--- what holds of the state that is found where the leased one acts again: it may be leased, with room for what was run, and these are its steps
+-- what holds of the state that is found where the leased virtual CPU acts again: it may be leased, with room for what was run, and these are its
+-- steps
 pub record MayCommit (l : KernelState) (lease : LeaseRun) (d : Candidate) (b : Budget) : Type 0 where
   pub state : IsReached l
   pub may : IsLeasable l lease.cpu d b

@@ -47,7 +47,7 @@ abbrev pub seen_from : KernelState → ℕ → List Page → ℕ → List (Optio
 seen_from k g pages n [] = []
 seen_from k g pages n (count ∷ counts) = option_map (seen_count k g pages n) count ∷ seen_from k g pages (n + 1) counts
 
--- the state in which these steps of the one who acts were taken
+-- the state in which these steps of the context that acts were taken
 abbrev pub advanced_to : KernelState → ℕ → Candidate → Budget → Steps → KernelState
 advanced_to k cpu c b s = changed_by k cpu c.sc c.actor s.count s.regs (laid_over 0 (cells_in s.pages.items) k.memory.ram)
     (budget_used (is_used s.count b) s.count (quantum_in (slice_get k.objects c.sc)) k.next_stamp b) (stamp_after (is_used s.count b) k.next_stamp)
@@ -59,12 +59,12 @@ pub record AreFresh (ram : List (List ℕ)) (pages : List Page) : Type 0 where
   pub bytes : (frame : ℕ) (b : List ℕ) → copy_at pages frame ≡ Some b → slice_get ram frame ≡ Some b
   pub stores : AllByRecursion (λ (p : Page). p.stores ≡ 0) pages
 
--- what was run on copies is what the guest does in so many inputs of its own
+-- what was run on copies is what the guest does in `n` inputs of its own
 pub record IsRun (k : KernelState) (g n : ℕ) (m : LeaseState) : Type 0 where
   pub regs : m.regs ≡ (own_after n (view k g)).regs
   pub pages : AreOf (view k g) n m.pages
 
--- so many turns charged, one after another
+-- as many turns charged as the number says, one after another
 abbrev pub charged_times : ℕ → KernelState → ℕ → ℕ → KernelState
 charged_times zero k cpu sc = k
 charged_times (suc n) k cpu sc = charged (charged_times n k cpu sc) cpu sc

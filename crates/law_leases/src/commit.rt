@@ -7,6 +7,6 @@ pub enum CommitDone {
     Away { actor: u32 },
     /// More instructions ran than there is room for turns.
     NoRoom { left: u64 },
-    /// So many turns were taken.
+    /// This many turns were taken.
     Committed(u64),
 }

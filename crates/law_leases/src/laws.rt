@@ -23,9 +23,9 @@ ghost use Rattle.rv_model.specs.Step.{one};
 ghost use Rattle.law_leases.specs.declared.commit.CommitDone.TheVariants.{Committed};
 ghost use Rattle.law_leases.specs.declared.steps.Steps.{Steps};
 
-/// So many inputs of its own of a virtual CPU that acts and is about to take an instruction, within what is
-/// left of the chosen quantum and before anything is due on the processor, of which none puts anything out,
-/// are as many turns of its processor, which are one change of the state. Each turn is a plain step of that one, paid by the chosen scheduling context.
+/// `n` inputs of its own of a virtual CPU that acts and is about to take an instruction, within what is left of the chosen quantum and before
+/// anything is due on the processor, of which none puts anything out, are as many turns of its processor, which are one change of the state. Each
+/// turn is a plain step of that virtual CPU, paid by the chosen scheduling context.
 pub fn own_inputs_without_output_are_turns()
     ensures state { (n : ℕ) (k : KernelState) (cpu : ℕ) (c : Candidate) (b : Budget) → IsSound k → IsLeasable k cpu c b → n ≤ b.left → IsEarly k.times cpu n
         → outputs (view k c.actor) (replicate n Own) ≡ [] → run k (replicate n cpu) ≡ advanced k cpu c b n }
@@ -33,7 +33,7 @@ pub fn own_inputs_without_output_are_turns()
         → outputs (view k c.actor) (replicate n Own) ≡ [] → trace k (replicate n cpu) ≡ replicate n (step_of cpu c) }
 {}
 
-/// Plain steps of a virtual CPU are told by its registers, the bytes of the frames that it stores to and the numbers of stores there: these say all
+/// Plain steps of a virtual CPU are told by its registers, the bytes of the frames that it stores to and the numbers of stores there. These say all
 /// that such turns change of memory, and of the stir counts of others.
 pub fn steps_with_their_pages_are_turns()
     ensures { (k : KernelState) (cpu : ℕ) (c : Candidate) (b : Budget) (s : Steps) → IsSound k → IsLeasable k cpu c b → s.count ≤ b.left → IsEarly k.times cpu s.count
@@ -56,15 +56,16 @@ pub fn a_lease_stops_at_a_raise_or_a_page_not_copied()
 {}
 
 /// Whatever turns are taken, where the stir counts of a virtual CPU and of its processor are equal before and
-/// after them, its view is the same, and so are the budgets of the processor's scheduling contexts.
+/// after them, its view is the same. So are the budgets of the processor's scheduling contexts.
 pub fn equal_counts_mean_an_equal_view()
     ensures { (turns : List ℕ) (k : KernelState) (g cpu : ℕ) → IsSound k → IsOn k g cpu → IsUnstirred k (run k turns) g cpu
         → IsAsBefore k (run k turns) g cpu }
 {}
 
-/// A commit of a lease that stems from an earlier state. With equal counts the processor isn't idle. Where it
-/// goes through, as many turns as the lease ran leave the state with its steps laid over it, and each is
-/// a plain step of the leased virtual CPU, paid by the chosen scheduling context.
+/// A commit of a lease that stems from an earlier state is as many turns as the lease ran, where it goes
+/// through. With equal counts the processor isn't idle. Where it goes through, as many turns as the lease ran
+/// leave the state with its steps laid over it, and each is a plain step of the leased virtual CPU, paid by the
+/// chosen scheduling context.
 pub fn a_commit_is_as_many_turns()
     ensures busy { (k : KernelState) (turns : List ℕ) (l : LeaseRun) → Stems l k → same_counts l.kept (stirs_now (run k turns) l.guest l.cpu) ≡ true
         → choice (run k turns) l.cpu ≢ None }
@@ -77,9 +78,9 @@ pub fn a_commit_is_as_many_turns()
         → trace k (replicate l.steps.count l.cpu) ≡ replicate l.steps.count (step_of l.cpu d) }
 {}
 
-/// What these laws ask of a state always holds: a kernel begins so, bytes laid into its memory leave it so, and
-/// each turn keeps it, so that it holds of whatever a kernel comes to. Beside what isolation stands on, edges lead to local threads alone, and so
-/// never to a virtual CPU, whose turns its own scheduling context pays.
+/// What these laws ask of a state always holds. A kernel begins so, bytes laid into its memory leave it so, and each turn keeps it, so that it holds
+/// of whatever a kernel comes to. Beside what isolation stands on, edges lead to local threads alone, and so never to a virtual CPU, whose turns its
+/// own scheduling context pays.
 pub fn what_bursts_stand_on_is_kept()
     ensures begins { (scenario : Scenario) → IsReached (boot scenario) }
     ensures memory { (k : KernelState) (address : ℕ) (bytes : List ℕ) → IsReached k → IsReached (record k { memory = laid k.memory address bytes }) }
@@ -87,9 +88,9 @@ pub fn what_bursts_stand_on_is_kept()
     ensures reached { (scenario : Scenario) (turns : List ℕ) → IsReached (run (boot scenario) turns) }
 {}
 
-/// So many instructions of whoever acts on a processor, each of which goes on, within what is left of the chosen quantum and before anything
-/// is due there, with the store of each counted for the other virtual CPUs that could see it, and then as many turns charged, are as many
-/// turns of the processor. Each is a plain step of that one, paid by the chosen scheduling context.
+/// `n` instructions of the context that acts on a processor, each of which goes on, within what is left of the chosen quantum and before anything is
+/// due there, with the store of each counted for the other virtual CPUs that could see it, and then as many turns charged, are as many turns of the
+/// processor. Each is a plain step of that context, paid by the chosen scheduling context.
 pub fn rides_are_turns()
     ensures state { (n : ℕ) (k m : KernelState) (cpu : ℕ) (c : Candidate) (b : Budget) → IsRideable k cpu c b → n ≤ b.left → IsEarly k.times cpu n
         → rides n k c.actor ≡ Some m → run k (replicate n cpu) ≡ charged_times n m cpu c.sc }

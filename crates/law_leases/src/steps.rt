@@ -9,8 +9,7 @@ pub struct Page {
     pub stores: u64,
 }
 
-/// So many instructions that a virtual CPU executed on copies: its registers after them, and the frames
-/// to which they stored.
+/// `count` instructions that a virtual CPU executed on copies: its registers after them, and the frames to which they stored.
 #[derive(Drop)]
 pub struct Steps {
     pub count: u64,

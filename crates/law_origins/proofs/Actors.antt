@@ -1,4 +1,4 @@
--- Who acts in a turn, and what the turn does to objects and delegations.
+-- The context that acts in a turn, and what the turn does to objects and delegations.
 use Rattle.std.proofs.Common.{◌≡◌, ℕ, zero, suc, ◌<◌, List, [], ◌∷◌, ◌++◌, length, ap, sym, ◌∙◌, subst, refl, arith}
 use Rattle.std.specs.Prelude.{true, false, slice_get, Option, Some, None, option_map}
 use Rattle.std.proofs.lemmas.Option.{same_Some, slice_get_within}
@@ -26,7 +26,7 @@ use Rattle.nova_objects.specs.declared.object.Object.{Object}
 use Rattle.law_origins.specs.Giving.{Acts}
 use Rattle.law_origins.proofs.Coming.{IsSpecial}
 
--- WHO ACTS
+-- WHICH CONTEXT ACTS
 
 pub is_able : (k : KernelState) (cpu ec : ℕ) → Acts k cpu ec → acts k.contexts ec ≡ true
 is_able k cpu ec is = who_acts (λ n. acts k.contexts n ≡ true) k cpu ec is (λ c chosen. chosen_acts k cpu c chosen)
@@ -43,7 +43,7 @@ actor_lives k cpu ec is =
 pub input_is : (k : KernelState) (cpu ec g : ℕ) → Acts k cpu ec → input k cpu g ≡ input_of k ec g (deed k ec)
 input_is k cpu ec g is = who_acts (λ n. input k cpu g ≡ input_of k n g (deed k n)) k cpu ec is (λ c chosen. chosen_input k cpu g c chosen)
 
--- some one acts in the turn of an input
+-- some context acts in the turn of an input
 pub some_acts : (k : KernelState) (cpu g : ℕ) (i : Input) → input k cpu g ≡ Some i → (ec : ℕ) × Acts k cpu ec
 some_acts k cpu g i is =
     of_input (λ o. o ≡ Some i → (ec : ℕ) × Acts k cpu ec) k cpu g (λ h. absurd (cc)) (λ c chosen h. (c.actor, ap (option_map (λ x. x.actor)) chosen)) is
@@ -88,7 +88,7 @@ pub last_object : (objects : List Object) (o : Object) → slice_get (objects ++
 last_object [] o = refl
 last_object (x ∷ objects) o = last_object objects o
 
--- one in a special state, and one that acts, is there
+-- a context in a special state, and a context that acts, is there
 special_there : (cs : Contexts) (n : ℕ) (s : State) → IsSpecial s → (ec_of cs n).state ≡ s → n < length cs
 special_there cs n s special is = by_entry (slice_get cs n) refl (subst IsSpecial (sym is) special)
   where

@@ -101,8 +101,7 @@ pub run_objects : (k : KernelState) (turns : List ℕ) → length k.objects ≤ 
 run_objects k [] = omega arith
 run_objects k (cpu ∷ turns) = let first = more_objects k cpu in let rest = run_objects (after k cpu) turns in omega (arith, first, rest)
 
--- an event names one that was there before its turn
--- or it is that of a turn of nobody, and names 0
+-- an event names a context that was there before its turn, or it is that of a turn in which none acts, and names 0
 passing_there : (k : KernelState) (cpu : ℕ) (p : Passing) → IsSound k → 0 < length k.objects → IsPassing k cpu p → (passing_event k cpu p).ec < length k.objects
 passing_there k cpu p sound some comes = by_passing p (passing_ending k cpu p comes sound.kept.blocked sound.kept.deadlines)
   where

@@ -37,7 +37,7 @@ Brings Parks s = Parked ≡ s
 Brings (Resumes mark m) s = Ready ≡ s
 Brings other s = ⊥
 
--- one of the edits brings this one to the state
+-- one of the edits brings `n` to the state
 abbrev pub Brought : Edits → ℕ → State → Type 0
 Brought [] n s = ⊥
 Brought ((m, e) ∷ es) n s = ((m ≡ n) × Brings e s) ⊎ Brought es n s
@@ -126,7 +126,7 @@ joined_state cs i (Some made) n s special h = elim (more_state cs (context_of i 
 
 -- DEEDS
 
--- one that acts comes to wait for a handler, to give a first range, or to an exit
+-- a context that acts comes to wait for a handler, to give a first range, or to an exit
 abbrev pub Begins : Deed → State → Type 0
 Begins (deeds.Sends handler ip identifier mtd reason q0 q1) s = Calling handler ≡ s
 Begins (deeds.Calls handler ip identifier items) s = Calling handler ≡ s
@@ -222,7 +222,7 @@ acting_came k cpu c n s special h =
       | inr brings ↦ inr (begun k c.actor (deed k c.actor) n s special brings)
     ]
 
--- what comes by itself brings nobody to such a state
+-- what comes by itself brings none to such a state
 pub passed : (k : KernelState) (p : Passing) (n : ℕ) (s : State) → IsSpecial s → (ec_of (all_edited k.contexts (ends_by (passing_ends k p))) n).state ≡ s → (context k n).state ≡ s
 passed k p n s special h = by_end (passing_ends k p) (edits_bring k.contexts (ends_by (passing_ends k p)) n s h)
   where

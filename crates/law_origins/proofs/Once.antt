@@ -1,4 +1,4 @@
--- A virtual CPU is made at one turn alone, and of the turns in which its exits are sent one is the last.
+-- A virtual CPU is made in a single turn, and of the turns in which its exits are sent one is the last.
 use Rattle.std.proofs.Common.{◌≡◌, ℕ, ◌<◌, List, [], ◌∷◌, ◌++◌, length, ap, ap₂, sym, ◌∙◌, subst, refl, arith}
 use Rattle.std.specs.Prelude.{Bool, true, false, ◌||◌, slice_get, Option, Some, None, option_map}
 use Rattle.std.specs.List.{list_any}

@@ -1,4 +1,4 @@
--- Whence one waits for a handler, or gives a first range: from the turn in which it began.
+-- Whence a context waits for a handler, or gives a first range: from the turn in which it began.
 use Rattle.nova_model.specs.declared.context.EcState.{EcState}
 use Rattle.law_turns.proofs.Setting.{more_at}
 use Rattle.law_forest.proofs.Boots.{sources_keep}
@@ -98,7 +98,7 @@ sent_now k cpu g h sound selectors virtual acts starts =
     let by = sent_by k g h (deed k g) selectors (own_deed k g (guest_there k g sound virtual)) (deed_warrant k g) starts in
     (input_is k cpu g g acts ∙ (own_is k g (deed k g) ∙ by.0), by.1)
 
--- one that waits has no Sent
+-- a virtual CPU that waits has no Sent
 unsent : (k : KernelState) (cpu g h : ℕ) → IsSound k → IsVirtual k g → (context k g).state ≡ Calling h → sent_in (input k cpu g) ≡ false
 unsent k cpu g h sound virtual waits = by_input (input k cpu g) (input_met k cpu g sound virtual) (view_state k g ∙ ap guest_state waits)
   where
@@ -130,7 +130,7 @@ Origin k turns n (Calling h) = IsVirtual (run k turns) n → HandlesLast k turns
 Origin k turns n (Granting (Some pd)) = HasMade k turns n pd
 Origin k turns n other = Unit {0}
 
--- at the start nobody waits or gives
+-- at the start none waits or gives
 images_contexts : (k : KernelState) (images : List Image) → (with_images k images).contexts ≡ k.contexts
 images_contexts k [] = refl
 images_contexts k (image ∷ images) = images_contexts (with_image k image) images

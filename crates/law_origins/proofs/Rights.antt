@@ -144,7 +144,7 @@ pub kind_is : (kind : Kind) → is_memory kind ≡ true → kind ≡ Mem
 kind_is Mem h = refl
 kind_is Obj h = absurd (cc)
 
--- one that takes items was called
+-- a handler that takes items was called
 takes_call : (s : Scenario) (turns : List ℕ) (ec caller : ℕ) (came : Mark) → (context (run (boot s) turns) ec).state ≡ Granting None →
     (context (run (boot s) turns) ec).caller ≡ Some (caller, came) → came ≡ mark.Call
 takes_call s turns ec caller came is keeps =
@@ -271,7 +271,7 @@ under f r leaf forest i h = by_top (any_in (is_top r f.list) (line f.list leaf) 
     by_top : (t : Derivation) × IsIn (line f.list leaf) t × (is_top r f.list t ≡ true) → IsUnder f leaf r.pd
     by_top top = by_case top.0 top.1 (or_cases (is_made_of r top.0 (parent_of f.list top.0)) (is_own r top.0) top.2)
 
--- one that runs a revoke is revoking
+-- a context that runs a revoke is revoking
 pub record IsRevoking (k : KernelState) (ec : ℕ) (r : Revocation) : Type 0 where
   pub range : Range
   pub own : Bool

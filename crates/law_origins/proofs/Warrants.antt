@@ -1,4 +1,4 @@
--- What finding a deed says of who does it: rows of the table of hypercalls, and exits.
+-- What finding a deed says of the context that does it: rows of the table of hypercalls, and exits.
 use Rattle.std.proofs.Common.{◌≡◌, ℕ, ◌^◌, ◌-◌, ◌<◌, ◌≤◌, ap, sym, ◌∙◌, subst, refl, arith}
 use Rattle.std.specs.Prelude.{Bool, true, false, not, nat_lt, IfSome, slice_get, Option, Some, None, Result, Ok, Err}
 use Rattle.std.proofs.lemmas.Bool.Decides.{nat_tests}
@@ -111,7 +111,7 @@ pt_warrant : (mtd ip : ℕ) (r : Result ℕ Status) → IfDone IsEventBase (and_
 pt_warrant mtd ip (Ok handler) = tt
 pt_warrant mtd ip (Err status) = tt
 
--- the selector of one that is recalled
+-- the selector of a context that is recalled
 selector_fits : (r : Registers) (whose : ℕ) → call_of r ≡ Ok (asks.EcCtrl whose) → whose < 2 ^ 20
 unfolding call_of
 selector_fits r whose is =

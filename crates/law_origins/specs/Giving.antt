@@ -1,4 +1,4 @@
--- Who gives memory to a virtual CPU's protection domain, and who takes it.
+-- Which contexts give memory to a virtual CPU's protection domain, and which take it.
 use Rattle.std.specs.Prelude.{◌≡◌, ℕ, Contains, Bool, true, List, ◌∷◌, ◌++◌, length, slice_get, Some, None, option_map}
 use Rattle.nova_model.specs.Choice.{next_to_act}
 use Rattle.nova_model.specs.Delegations.{added, reach, without}
@@ -28,7 +28,7 @@ pub record HasPageTo (k : KernelState) (pd right frame : ℕ) : Type 0 where
   pub leads : reach k.delegations.list pd page ≡ Some (record { frame = frame; rights = rights })
   pub allowed : allows rights right ≡ true
 
--- of a list of turns from k on the one in which the execution context made the protection domain of this number
+-- the turn, of a list of turns from k on, in which the execution context made the protection domain `pd`
 pub record HasMade (k : KernelState) (turns : List ℕ) (ec pd : ℕ) : Type 0 where
   pub before : List ℕ
   pub cpu : ℕ
@@ -38,8 +38,8 @@ pub record HasMade (k : KernelState) (turns : List ℕ) (ec pd : ℕ) : Type 0 w
   pub number : length (run k before).objects ≡ pd
   pub made : slice_get (after (run k before) cpu).objects pd ≡ Some Pd
 
--- After a list of turns one gives to a protection domain from another: a handler in the first that takes the items of its caller, which lies in the
--- other; one in the other that replies to a caller in the first; or one in the other that made the first, and gives it its first range.
+-- After a list of turns a context gives to a protection domain from another: a handler in the first that takes the items of its caller, which lies in
+-- the other; one in the other that replies to a caller in the first; or one in the other that made the first, and gives it its first range.
 pub data IsGiver (k : KernelState) (turns : List ℕ) (ec pd giver : ℕ) : Type 0 where
   TakesItems : (caller : ℕ) → (context (run k turns) ec).state ≡ Granting None → (context (run k turns) ec).caller ≡ Some (caller, Call) →
       pd_of (run k turns) ec ≡ pd → pd_of (run k turns) caller ≡ giver → IsGiver k turns ec pd giver
@@ -65,8 +65,8 @@ pub record IsGiven (k : KernelState) (turns : List ℕ) (cpu ec g base order : �
   pub bytes : contents ≡ contents_of (run k turns).memory.ram frame order
   pub giver : IsGiver k turns ec (pd_of (run k turns) g) parent.pd
 
--- A memory derivation of the protection domain of the virtual CPU goes, with this range. Who acts revokes, the derivation is in the scope of that revoke, and its protection domain holds an ancestor
--- of the derivation, or that itself.
+-- A memory derivation of the protection domain of the virtual CPU goes, with this range. The context that acts revokes, the derivation is in the
+-- scope of that revoke, and its protection domain holds an ancestor of the derivation, or that itself.
 pub record IsTakenByRight (k : KernelState) (cpu ec g base order : ℕ) : Type 0 where
   pub leaf : Derivation
   pub goes : (after k cpu).delegations ≡ without k.delegations leaf.id

@@ -9,7 +9,7 @@ use Rattle.nova_model.specs.Runs.{after, run, trace}
 use Rattle.nova_model.specs.State.{KernelState}
 use Rattle.nova_model.specs.Views.{view}
 
--- of a list of turns from k on the one that made the virtual CPU: there was no object of its number before that turn, and a virtual CPU after it
+-- the turn, of a list of turns from k on, that made the virtual CPU: there was no object of its number before that turn, and a virtual CPU after it
 pub record IsMade (k : KernelState) (turns : List ℕ) (g : ℕ) : Type 0 where
   pub before : List ℕ
   pub cpu : ℕ

@@ -1,4 +1,4 @@
--- Who handles an exit of a virtual CPU: the handler of the portal that its protection domain held in the turn in which the exit was sent.
+-- The thread that handles an exit of a virtual CPU: the handler of the portal that its protection domain held in the turn in which the exit was sent.
 use Rattle.std.specs.Prelude.{◌≡◌, ℕ, ◌+◌, Bool, true, false, List, ◌∷◌, ◌++◌, slice_get, Some}
 use Rattle.std.specs.List.{list_any}
 use Rattle.nova_guest.specs.declared.guest.GuestState.TheVariants as guest

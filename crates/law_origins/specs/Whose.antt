@@ -1,4 +1,4 @@
--- Whose inputs: who acts in the turn that is an input of a virtual CPU, and by what right.
+-- Whose inputs: the context that acts in the turn that is an input of a virtual CPU, and by what right.
 use Rattle.std.specs.Prelude.{◌≡◌, ℕ, List, Some}
 use Rattle.law_forest.specs.Made.{MayUse}
 use Rattle.nova_guest.specs.declared.input.Input.{Input}
@@ -13,7 +13,7 @@ use Rattle.nova_range.specs.Rights.{write_right}
 use Rattle.law_origins.specs.Giving.{Acts, IsGiven, IsTakenByRight, HasPageTo}
 use Rattle.law_origins.specs.Sending.{HandlesLast}
 
--- after a list of turns from a boot state the next turn of the processor is this input of a virtual CPU, and this one acts in it
+-- after a list of turns from a boot state the next turn of the processor is this input of a virtual CPU, and `ec` acts in it
 pub record IsInputBy (scenario : Scenario) (turns : List ℕ) (cpu ec g : ℕ) (i : Input) : Type 0 where
   pub virtual : IsVirtual (run (boot scenario) turns) g
   pub acts : Acts (run (boot scenario) turns) cpu ec

@@ -1,4 +1,4 @@
--- Guests and inputs can agree under some renaming just where the pairs that they force make them agree; and the verdict on them is the one that holds.
+-- Guests and inputs can agree under some renaming just where the pairs that they force make them agree; and the verdict on them is that which holds.
 use Rattle.std.proofs.Common.{◌≡◌, ℕ, zero, suc, ◌<◌, ◌≤◌, ◌⊎◌, List, [], ◌∷◌, length, take, ap, sym, ◌∙◌, subst, subst₂, refl, inl, inr, arith}
 use Rattle.std.specs.Prelude.{Bool, true, false, ◌==◌, ◌&&◌, ◌||◌, min, if◌then◌else◌}
 use Rattle.std.specs.List.{All, list_all}

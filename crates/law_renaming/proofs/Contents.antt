@@ -42,7 +42,7 @@ cell_placed : (c : Cell) (cells : List Cell) (g : ℕ) → cell_at cells c.frame
 cell_placed c [] g free = grind arith
 cell_placed c (x ∷ xs) g free = grind (arith, cell_placed c xs g)
 
--- a frame that has a cell keeps it; one that has none gets its piece
+-- a frame that has a cell keeps it; a frame that has none gets its piece
 cell_given : (size n frame : ℕ) (bytes : List ℕ) (cells : List Cell) (g : ℕ) →
     cell_at (placed_all frame_of (missing cells (pieces size n frame bytes)) cells) g ≡ first_of (cell_at cells g) (cell_at (pieces size n frame bytes) g)
 cell_given size zero frame bytes cells g = first_alone (cell_at cells g)

@@ -101,7 +101,7 @@ met_before u v met ps p (Some all) is tells = record {
   cells = tells.cells;
 }
 
--- one that joins
+-- a pair that joins
 met_first : (u v : Guest) (met ps : List (ℕ × ℕ)) (p : ℕ × ℕ) (o : Option (List (ℕ × ℕ))) → IfJoined u v (met ++ (p ∷ [])) ps o → IfJoined u v met (p ∷ ps) o
 met_first u v met ps p None tells = λ r one cells old new. tells r one cells (end_in r met p old (self_in r p ps new)) (later_in r p ps new)
 met_first u v met ps p (Some all) tells = record {
@@ -112,7 +112,7 @@ met_first u v met ps p (Some all) tells = record {
   cells = tells.cells;
 }
 
--- one that can't
+-- a pair that can't
 can_join_found : (u v : Guest) (met : List (ℕ × ℕ)) (p : ℕ × ℕ) (r : ℕ → ℕ → Bool) → IsOneToOne r → CellsAgree r u.cells v.cells → AreIn r met → Renames r p.0 p.1 → can_join u v met p ≡ true
 can_join_found u v met p r one cells old new =
     and_from _ _ (all_pairs (suits p) met (λ a b pair. ap (same_flag (p.0 == a)) (same_frame r one p.0 p.1 a b new (old a b pair)) ∙ flags_self (p.0 == a)))

@@ -1,4 +1,4 @@
--- A store of another names no new pair: its frame is one that a map leads to, and so is its partner.
+-- A store of another names no new pair: a map leads to its frame, and a map to its partner.
 use Rattle.std.proofs.Common.{◌≡◌, ℕ, ◌+◌, ◌-◌, ◌^◌, List, [], ◌∷◌, ◌++◌, ap, sym, ◌∙◌, subst, refl, inl, inr, arith}
 use Rattle.std.specs.Prelude.{Bool, true, false, ◌||◌, ◌==◌, Option, Some, None, IfSome, if◌then◌else◌}
 use Rattle.std.specs.List.{All}

@@ -19,7 +19,8 @@ is_pair a b p = (p.0 == a) && (p.1 == b)
 abbrev pub among : List (ℕ × ℕ) → ℕ → ℕ → Bool
 among pairs a b = list_any (is_pair a b) pairs
 
--- THE PAIRS THAT ARE FORCED: the i-th frame of a map, or of one that is given, goes with the i-th of its partner; and a frame to which another stores with its partner
+-- THE PAIRS THAT ARE FORCED: the i-th frame of a map, or of a map that is given, goes with the i-th of its partner; and a frame to which another
+-- stores with its partner
 abbrev pub paired : ℕ → ℕ → ℕ → List (ℕ × ℕ)
 paired zero a b = []
 paired (suc n) a b = (a, b) ∷ paired n (a + 1) (b + 1)

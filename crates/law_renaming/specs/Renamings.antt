@@ -34,7 +34,7 @@ MapsAgree r [] [] = Unit {0}
 MapsAgree r (m ∷ ms) (n ∷ ns) = MapAgrees r m n × MapsAgree r ms ns
 MapsAgree r ms ns = ⊥
 
--- CELLS: a frame has the bytes of the one that it stands for; both have a cell, or neither, so that RAM stands for RAM and a console for a console
+-- CELLS: a frame has the bytes of that which it stands for; both have a cell, or neither, so that RAM stands for RAM and a console for a console
 abbrev pub CellsAgree : (ℕ → ℕ → Bool) → List Cell → List Cell → Type 0
 CellsAgree r cells new = (a b : ℕ) → Renames r a b → cell_at new b ≡ cell_at cells a
 

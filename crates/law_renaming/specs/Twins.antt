@@ -15,7 +15,7 @@ use Rattle.law_isolation.specs.Shown.{gained, raises_in}
 use Rattle.law_isolation.specs.Sound.{IsVirtual}
 use Rattle.law_renaming.specs.Renamings.{GuestsAgree, InputsAgree, IsOneToOne, MapsAgree, OutsAgree, Renames}
 
--- A RENAMING between the frames of two kernels, of so many RAM frames each: one to one, RAM stands for RAM and a console for a console
+-- A RENAMING between the frames of two kernels, of `ram` and `others` RAM frames: one to one, RAM stands for RAM and a console for a console
 pub record IsRenaming (r : ℕ → ℕ → Bool) (ram others : ℕ) : Type 0 where
   pub one : IsOneToOne r
   pub sort : (a b : ℕ) → Renames r a b → nat_lt b others ≡ nat_lt a ram

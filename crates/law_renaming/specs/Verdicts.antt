@@ -5,7 +5,8 @@ use Rattle.nova_guest.specs.declared.input.Input.{Input}
 use Rattle.law_renaming.specs.Forced.{agree, among, forced, once}
 use Rattle.law_renaming.specs.Renamings.{GuestsAgree, InputsAgree, IsOneToOne, Renames}
 
--- A VERDICT: they agree, with so many inputs on each side and these pairs of frames; or not even the guests do; or they do with so many first inputs
+-- A VERDICT: they agree, with `inputs` inputs on each side and these pairs of frames; or not even the guests do; or they do with the first `inputs`
+-- inputs
 pub data Verdict : Type 0 where
   Equal : (inputs : ℕ) → (pairs : List (ℕ × ℕ)) → Verdict
   Views : Verdict
@@ -25,14 +26,14 @@ CanAgree u v is js = (pairs : List (ℕ × ℕ)) × IsAgreement (among pairs) u 
 abbrev pub CantAgree : Guest → Guest → List Input → List Input → Type 0
 CantAgree u v is js = (r : ℕ → ℕ → Bool) → IsAgreement r u v is js → ⊥
 
--- equal: so many inputs on each side, and pairs that make all agree and that each renaming has which does
+-- equal: `inputs` inputs on each side, and pairs that make all agree and that each renaming has which does
 pub record AreEqual (u v : Guest) (is js : List Input) (inputs : ℕ) (pairs : List (ℕ × ℕ)) : Type 0 where
   pub agreement : IsAgreement (among pairs) u v is js
   pub least : (r : ℕ → ℕ → Bool) → IsAgreement r u v is js → (a b : ℕ) → Renames (among pairs) a b → Renames r a b
   pub first : inputs ≡ length is
   pub second : inputs ≡ length js
 
--- they differ after so many inputs: those can agree, and with one more they can't, or one side has no more and the other has
+-- they differ after `inputs` inputs: those can agree, and with one more they can't, or one side has no more and the other has
 pub record AreDifferent (u v : Guest) (is js : List Input) (inputs : ℕ) : Type 0 where
   pub first : inputs ≤ length is
   pub second : inputs ≤ length js

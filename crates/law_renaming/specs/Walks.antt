@@ -6,7 +6,7 @@ use Rattle.nova_guest.specs.declared.input.Input.{Input}
 use Rattle.law_renaming.specs.Forced.{alike, alike_input, among, has_same_bytes, input_pairs, maps_pairs, suits}
 use Rattle.law_renaming.specs.Verdicts.{Verdict, Equal, Views, Differ}
 
--- pairs that join those that were met; one that doesn't suit them, or whose frames had unlike bytes at first, can't
+-- pairs that join those that were met; a pair that doesn't suit them, or whose frames had unlike bytes at first, can't
 abbrev pub can_join : Guest → Guest → List (ℕ × ℕ) → ℕ × ℕ → Bool
 can_join u v met p = list_all (suits p) met && has_same_bytes u.cells v.cells p
 
@@ -25,7 +25,7 @@ abbrev pub counted : ℕ → Option (List (ℕ × ℕ)) → ℕ
 counted n (Some met) = suc n
 counted n None = n
 
--- all inputs, after so many that agree
+-- all inputs, after `n` that agree
 abbrev pub walked : Guest → Guest → Option (List (ℕ × ℕ)) → ℕ → List Input → List Input → Verdict
 walked u v None n is js = Differ n
 walked u v (Some met) n [] [] = Equal n met

@@ -4,7 +4,7 @@ ghost use Rattle.law_renaming.specs.Forced.{alike_input, alike_map, alike_maps, 
 use bitflags::Flags;
 use nova_guest::{GuestState, Input, Map};
 
-/// Whether two states are equal.
+/// Whether `s` and `t` are equal.
 pub fn same_state(s: GuestState, t: GuestState) -> bool
     ensures { result ≡ same_state s t }
 {
@@ -25,14 +25,14 @@ pub fn same_state(s: GuestState, t: GuestState) -> bool
     }
 }
 
-/// Whether two maps are equal but for their frames.
+/// Whether `m` and `n` are equal but for their frames.
 pub fn alike_map(m: &Map, n: &Map) -> bool
     ensures { result ≡ alike_map m.now n.now }
 {
     m.base == n.base && m.order == n.order && m.rights.bits() == n.rights.bits()
 }
 
-/// Whether two maps that are given, with equal contents, are equal but for their frames.
+/// Whether `i` and `j` are maps that are given, with equal contents, and are equal but for their frames.
 fn alike_given(i: &Input, j: &Input) -> bool
     ensures { result ≡ is_given i.now && alike_input i.now j.now }
 {
@@ -60,7 +60,7 @@ fn alike_given(i: &Input, j: &Input) -> bool
     }
 }
 
-/// Whether two inputs are equal but for their frames.
+/// Whether `i` and `j` are equal but for their frames.
 pub fn alike_input(i: &Input, j: &Input) -> bool
     ensures { result ≡ alike_input i.now j.now }
 {
@@ -91,14 +91,14 @@ pub fn alike_input(i: &Input, j: &Input) -> bool
     }
 }
 
-/// Whether a pair of frames suits another: first frames are equal just where second ones are.
+/// Whether the pair of frames `p` suits `q`: first frames are equal just where second ones are.
 pub fn suits(p: (u32, u32), q: (u32, u32)) -> bool
     ensures { result ≡ suits p q }
 {
     (p.0 == q.0) == (p.1 == q.1)
 }
 
-/// Whether maps are equal one by one but for their frames.
+/// Whether `ms` and `ns` are equal one by one but for their frames.
 #[tactic(auto, using(crate::proofs::Pairing::unlike_many))]
 pub fn alike_maps(ms: &[Map], ns: &[Map]) -> bool
     ensures { result ≡ alike_maps ms.now ns.now }

@@ -34,8 +34,8 @@ pub fn renamed_guests_read_the_same()
     ensures pages { (r : ℕ → ℕ → Bool) (u v : Guest) (page : ℕ) → GuestsAgree r u v → bytes_behind u page ≡ bytes_behind v page }
 {}
 
-/// Guests that agree under a one-to-one renaming of frames, with inputs that agree one by one, end so,
-/// and put out the same: equal exits, and equal bytes, to consoles that stand for each other. Maps that are
+/// Guests that agree under a one-to-one renaming of frames, with inputs that agree one by one, end so, and put
+/// out the same. That is equal exits, and equal bytes, to consoles that stand for each other. Maps that are
 /// given come with the bytes of no more frames than they have, as each input of a guest alone does.
 pub fn renamed_inputs_end_renamed()
     ensures guests { (r : ℕ → ℕ → Bool) (u v : Guest) (is js : List Input) → IsOneToOne r → GuestsAgree r u v → All InputFits is → InputsAgree r is js
@@ -63,8 +63,8 @@ pub fn renamed_runs_end_renamed()
         → EndAsTwins r (run (boot s) before) (run (boot t) since) turns others g h }
 {}
 
-/// Of two views it is enough that each cell of the first has the bytes of the one that stands for it in the
-/// second, where RAM stands for RAM and a console for a console: cells are the RAM frames that maps lead to.
+/// Of two views it is enough that each cell of the first has the bytes of that which stands for it in the
+/// second, where RAM stands for RAM and a console for a console. Cells are the RAM frames that maps lead to.
 pub fn views_agree_by_the_cells_of_the_first()
     ensures { (r : ℕ → ℕ → Bool) (k l : KernelState) (g h : ℕ) → IsRenaming r (length k.memory.ram) (length l.memory.ram)
         → ViewsAgree r (view k g) (view l h) → GuestsAgree r (view k g) (view l h) }
@@ -80,17 +80,16 @@ pub fn renamings_are_forced()
     ensures found { (r : ℕ → ℕ → Bool) (u v : Guest) (is js : List Input) → IsAgreement r u v is js → agree u v is js ≡ true }
 {}
 
-/// What is answered on two guests with their inputs holds: they are equal under the pairs that are given,
-/// or no renaming makes the guests agree, or one makes them and so many first inputs agree and none does for
-/// one more. No other answer holds.
+/// What is answered on two guests with their inputs holds. They are equal under the pairs that are given, or no
+/// renaming makes the guests agree, or one does so for them and the first `inputs` inputs and none does for an
+/// input more. No other answer holds.
 pub fn two_guests_are_compared()
     ensures holds { (u v : Guest) (is js : List Input) → IsVerdict u v is js (compared u v is js) }
     ensures alone { (u v : Guest) (is js : List Input) (x y : Verdict) → IsVerdict u v is js x → IsVerdict u v is js y → SayTheSame x y }
 {}
 
-/// One pass over the inputs, which keeps the pairs that were met, finds a verdict that holds; and where
-/// it finds the guests equal it gives the pairs that they force, each once, in the order in which they are
-/// first met.
+/// One pass over the inputs, which keeps the pairs that were met, finds a verdict that holds. Where it finds
+/// the guests equal it gives the pairs that they force, each once, in the order in which they are first met.
 pub fn one_pass_compares()
     ensures holds { (u v : Guest) (is js : List Input) → IsVerdict u v is js (walk u v is js) }
     ensures pairs { (u v : Guest) (is js : List Input) (inputs : ℕ) (pairs : List (ℕ × ℕ)) → walk u v is js ≡ Equal inputs pairs
@@ -106,15 +105,14 @@ pub fn equal_guests_end_renamed()
         → OutsAgree (among pairs) (outputs u is) (outputs v js) }
 {}
 
-/// Each guest agrees with itself where no frame is renamed, and a map between frames that takes no two to
-/// one is a one-to-one renaming.
+/// Each guest agrees with itself where no frame is renamed, and a map between frames that takes no two frames to the same is a one-to-one renaming.
 pub fn renamings_are_there()
     ensures same { (u : Guest) (is : List Input) → IsAgreement (λ a b. a == b) u u is is }
     ensures maps { (f : ℕ → ℕ) → ((a b : ℕ) → f a ≡ f b → a ≡ b) → IsOneToOne (λ a b. f a == b) }
 {}
 
-/// The pairs that two virtual CPUs force, with all their inputs or with some first ones, take RAM to RAM and
-/// consoles to consoles, where these agree under any renaming. It stands on derivations being ranges, all
+/// If two virtual CPUs agree under some renaming of frames over their first `n` inputs, the pairs of frames that their views and these inputs
+/// force take RAM to RAM and consoles to consoles. It stands on derivations being ranges, all
 /// of RAM or none, which a kernel of at most 2^14 RAM frames and 16 consoles begins with and each turn keeps.
 pub fn forced_pairs_take_ram_to_ram()
     ensures { (r : ℕ → ℕ → Bool) (k l : KernelState) (turns others : List ℕ) (g h n : ℕ) → IsSound k → IsSound l → AreRanges k → AreRanges l
@@ -123,7 +121,7 @@ pub fn forced_pairs_take_ram_to_ram()
 {}
 
 /// The pairs that a virtual CPU forces are those that the maps of its view, and the maps that it is given,
-/// name: what another stores to is memory that it has.
+/// name. What another stores to is memory that it has.
 pub fn stores_of_others_name_no_pair()
     ensures { (r : ℕ → ℕ → Bool) (k : KernelState) (turns : List ℕ) (g : ℕ) (v : Guest) (js : List Input) → IsSound k → IsVirtual k g
         → IsAgreement r (view k g) v (inputs k turns g) js

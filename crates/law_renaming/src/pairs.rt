@@ -9,7 +9,7 @@ use crate::alike::{alike_input, suits};
 use nova_guest::{Cell, Guest, Input};
 use std::alloc::AllocError;
 
-/// The bytes of a frame, where it has a cell.
+/// The bytes of `frame`, where it has a cell.
 fn bytes_of<'a>(cells: &'a [Cell], frame: u32) -> Option<&'a [u8]>
     ensures { option_map (λ b. b.now) result ≡ cell_at cells.now frame }
 {
@@ -21,7 +21,7 @@ fn bytes_of<'a>(cells: &'a [Cell], frame: u32) -> Option<&'a [u8]>
     None
 }
 
-/// Whether two frames have equal bytes, or neither has a cell.
+/// Whether the two frames of `pair` have equal bytes, or neither has a cell.
 fn has_same_bytes(cells: &[Cell], others: &[Cell], pair: (u32, u32)) -> bool
     ensures { result ≡ has_same_bytes cells.now others.now pair }
 {
@@ -32,7 +32,7 @@ fn has_same_bytes(cells: &[Cell], others: &[Cell], pair: (u32, u32)) -> bool
     }
 }
 
-/// Whether a pair is among those that were met.
+/// Whether `pair` is among those that were met.
 fn is_among(met: &[(u32, u32)], pair: (u32, u32)) -> bool
     ensures { result ≡ among met.now pair.0 pair.1 }
 {
@@ -44,7 +44,7 @@ fn is_among(met: &[(u32, u32)], pair: (u32, u32)) -> bool
     false
 }
 
-/// Whether a pair suits all that were met.
+/// Whether `pair` suits all that were met.
 fn suits_all(met: &[(u32, u32)], pair: (u32, u32)) -> bool
     ensures { result ≡ list_all (suits pair) met.now }
 {
@@ -56,14 +56,14 @@ fn suits_all(met: &[(u32, u32)], pair: (u32, u32)) -> bool
     true
 }
 
-/// Whether a pair can join those that were met.
+/// Whether `pair` can join those that were met.
 fn can_join(u: &Guest, v: &Guest, met: &[(u32, u32)], pair: (u32, u32)) -> bool
     ensures { result ≡ can_join u.now v.now met.now pair }
 {
     suits_all(met, pair) && has_same_bytes(u.cells.as_slice(), v.cells.as_slice(), pair)
 }
 
-/// A pair joins those that were met, unless it is among them; it says whether it can.
+/// Joins `pair` to those that were met, unless it is among them, and says whether it can join.
 pub fn join(
     u: &Guest,
     v: &Guest,
@@ -82,7 +82,7 @@ pub fn join(
     Ok(true)
 }
 
-/// So many pairs of frames, one after another, join those that were met; it says whether they can.
+/// Joins the `count` pairs of frames from `a` and `b` on, one after another, to those that were met, and says whether they can join.
 #[tactic(auto, using(crate::proofs::Pairing::joined_next))]
 pub fn join_frames(
     u: &Guest,
@@ -105,8 +105,7 @@ pub fn join_frames(
     Ok(true)
 }
 
-/// What an input of each side adds: the pairs that they name join those that were met, where the inputs
-/// are equal but for their frames; it says whether they can.
+/// Joins the pairs that the inputs `i` and `j` name to those that were met, where they are equal but for their frames. It says whether they can.
 pub fn step(
     u: &Guest,
     v: &Guest,

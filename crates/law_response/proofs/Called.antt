@@ -1,4 +1,4 @@
--- One that is the first to wait at the semaphore of an alarm, whose moment has come, stays so until it is woken.
+-- A context that is the first to wait at the semaphore of an alarm, whose moment has come, stays so until it is woken.
 use Rattle.std.proofs.Common.{◌≡◌, ℕ, ◌≤◌, List, [], ◌∷◌, ◌++◌, length, inl, inr, refl, sym, ap, ap₂, ◌∙◌, subst, arith}
 use Rattle.std.specs.Prelude.{◌≢◌, ◌⊎◌, Bool, true, false, ◌==◌, slice_get, slice_set, Option, Some, None, option_map}
 use Rattle.std.proofs.lemmas.Bool.{eqb-true, eqb-false}
@@ -63,7 +63,7 @@ first_woken : (all : Semaphores) (sm ec : ℕ) → IsFirst all sm ec → woken (
 first_woken all sm ec f =
     ap (λ (o : Option Semaphore). woken (semaphore_in o)) f.there ∙ ap (λ (ws : List ℕ). woken_of f.semaphore.count ws) f.waiting
 
--- a change of one that leaves its first leaves all firsts
+-- a change of a semaphore that leaves its first leaves all firsts
 abbrev Leaves : (Semaphore → Semaphore) → ℕ → Type 0
 Leaves change ec = (s : Semaphore) (rest : List ℕ) → s.waiting ≡ ec ∷ rest → (more : List ℕ) × ((change s).waiting ≡ ec ∷ more)
 
@@ -145,7 +145,7 @@ pub rung_other : (alarms : List AlarmState) (m n : ℕ) (o : Option AlarmState) 
 rung_other alarms m n None a other at = at
 rung_other alarms m n (Some b) a other at = get_other alarms m n (rung_once b) other ∙ at
 
--- what comes by itself leaves the alarm and its first, or that one goes on
+-- what comes by itself leaves the alarm and its first, or the first goes on
 record IsLeft (k : KernelState) (n sm ec : ℕ) (a : AlarmState) (p : Passing) : Type 0 where
   alarm : slice_get (alarms_with k.times.alarms (passing_rings p)) n ≡ Some a
   first : IsFirst (semaphores_with k.semaphores (passing_semaphore k p)) sm ec

@@ -1,4 +1,4 @@
--- Who is chosen where a scheduling context is runnable: it, one of a greater priority, or one that stands before it in its ring.
+-- What is chosen where a scheduling context is runnable: it, one of a greater priority, or one that stands before it in its ring.
 use Rattle.std.proofs.Common.{◌≡◌, ℕ, zero, suc, ◌<◌, ◌≤◌, ◌+◌, List, [], ◌∷◌, inl, inr, refl, sym, ap, ap₂, ◌∙◌, subst, arith}
 use Rattle.std.specs.Prelude.{◌≢◌, Bool, true, false, ◌==◌, ◌&&◌, if◌then◌else◌, slice_get, Option, Some, None, IfSome}
 use Rattle.std.specs.List.{Contains}
@@ -15,7 +15,7 @@ use Rattle.law_turns.proofs.Candidates.{IsCandidate, schedule_of, the_chosen}
 use Rattle.law_turns.proofs.Stamps.{AreStamped}
 use Rattle.law_response.specs.Waits.{IsSchedule, MayRun}
 
--- A RUNNABLE ONE IS A CANDIDATE
+-- A RUNNABLE SCHEDULING CONTEXT IS A CANDIDATE
 
 behind : (o : Option Candidate) (cs : List Candidate) (c : Candidate) → Contains cs c → Contains (in_front o cs) c
 behind None cs c there = there
@@ -82,7 +82,7 @@ candidate_of_schedule k cpu c sc ec its_cpu priority quantum its same object =
     let one : its.object ≡ Sc ec its_cpu priority quantum = cc in
     of_schedule k c.sc ec its_cpu cpu priority quantum c (ap (candidate_of k cpu c.sc) (sym one) ∙ its.is)
 
--- WHO IS CHOSEN BESIDE IT
+-- WHICH IS CHOSEN BESIDE IT
 
 -- it, one of a greater priority, or one of its priority with a lesser stamp
 pub data IsBeside (sc priority stamp : ℕ) (c : Candidate) : Type 0 where

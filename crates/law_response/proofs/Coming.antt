@@ -1,4 +1,4 @@
--- One whose moment has come acts in time: each turn of its processor is due until it is woken, and then it acts by itself.
+-- A context whose moment has come acts in time: each turn of its processor is due until it is woken, and then it acts by itself.
 use Rattle.std.proofs.Common.{◌≡◌, ℕ, ◌≤◌, List, [], ◌∷◌, inl, inr, refl, sym, ap, ap₂, ◌∙◌, arith}
 use Rattle.std.specs.Prelude.{◌≢◌, ◌||◌, Bool, true, false, ◌==◌, is_none, slice_get, Option, Some, None, option_map, option_and_then}
 use Rattle.std.proofs.lemmas.Bool.{eqb-true}
@@ -29,7 +29,7 @@ use Rattle.law_response.proofs.Waiting.{IsReached, after_schedule, reached_after
 
 -- IT WAITS FOR ITS MOMENT, OR ACTS BY ITSELF
 
--- one that is blocked pays for no turn
+-- a blocked context pays for no turn
 blocked_pays : (k : KernelState) (by sc ec cpu priority quantum sm : ℕ) (b : Budget) → IsKept k → IsSchedule k sc ec cpu priority quantum b → state_in k.contexts ec ≡ Some (Blocked sm) →
     is_paid_by sc (next_to_act k by) ≡ false
 blocked_pays k by sc ec cpu priority quantum sm b kept its blocked = by_choice (next_to_act k by) refl

@@ -1,4 +1,4 @@
--- Where nobody may create, no object is made, nobody comes to the right, and the dead stay dead.
+-- Where none may create, no object is made, none comes to the right, and the dead stay dead.
 use Rattle.std.proofs.Common.{◌≡◌, ℕ, List, [], ◌∷◌, length, inl, inr, refl, sym, ap, ◌∙◌, subst}
 use Rattle.std.proofs.lemmas.Option.{same_Some}
 use Rattle.std.specs.Prelude.{◌≢◌, true, false, is_some, map, slice_get, Option, Some, None, option_map}
@@ -84,7 +84,7 @@ dead_after k cpu n kept at = elim (comes k cpu) [
 
 -- NO OBJECT IS MADE
 
--- all but those of `E` create nothing; none of `E` acts, or waits for the reply of one that does
+-- all but those of `E` create nothing; none of `E` acts, or waits for the reply of a context that does
 pub record IsLimited (k : KernelState) (cpu : ℕ) (E : ℕ → Type 0) : Type 0 where
   pub nothing : (n : ℕ) → (E n → ⊥) → CreatesNothing k n
   pub acts : (n : ℕ) → Acts k cpu n → E n → ⊥
@@ -112,7 +112,7 @@ objects_stay k cpu E l = by_choice (next_to_act k cpu) refl (turn_grows k cpu)
     by_choice None is grows = grows.objects
     by_choice (Some c) is grows = by_growth c.actor (ap (option_map (λ (x : Candidate). x.actor)) is) grows
 
--- NOBODY COMES TO THE RIGHT
+-- NONE COMES TO THE RIGHT
 
 giver_creates : (k : KernelState) (cpu ec giver receiver : ℕ) (E : ℕ → Type 0) → IsKept k → IsLimited k cpu E → Acts k cpu ec → GivesTo k ec giver receiver → MayCreate k giver → ⊥
 giver_creates k cpu ec giver receiver E kept l acts_ (TakesOfCaller caller mark state serves g r) may =

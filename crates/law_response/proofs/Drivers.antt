@@ -72,7 +72,7 @@ is_due_then k sc ec cpu priority quantum b r its coming outranks never = by_due 
         let ch = chosen_beside k sc ec cpu priority quantum b (reached_stamped k r) its (coming_may k cpu ec cpu kept coming refl is) in
         absurd (by_beside is ch.chosen ch.choice ch.beside)
 
--- nobody acts where something is due
+-- none acts where something is due
 pub nobody_acts : (k : KernelState) (cpu : ℕ) → is_due k cpu ≡ true → next_to_act k cpu ≡ None
 nobody_acts k cpu due = by_due (due_on k.times cpu) refl due
   where
@@ -80,7 +80,7 @@ nobody_acts k cpu due = by_due (due_on k.times cpu) refl due
     by_due None is there = absurd cc
     by_due (Some what) is there = passing_none k cpu (Falls what) is
 
--- who sets a deadline sets one of the processor whose turn it is
+-- a context that sets a deadline sets one of the processor whose turn it is
 sets_home : (s : Scenario) (turns : List ℕ) (by cpu : ℕ) (c : Candidate) → next_to_act (run (boot s) turns) by ≡ Some c → sets_one cpu (deed (run (boot s) turns) c.actor) ≡ true → by ≡ cpu
 sets_home s turns by cpu c chosen sets = by_deed (deed k c.actor) refl (deed_asks k c.actor) sets
   where

@@ -35,7 +35,7 @@ any e = true
 
 -- DEADLINES
 
--- one more at most where one is set
+-- one more at most where a deadline is set
 set_most : (cpu n : ℕ) (ds : List (Option Deadline)) (i : ℕ) (x : Deadline) →
     length (deadline_entries cpu n (slice_set ds i (Some x))) ≤ length (deadline_entries cpu n ds) + one_if (x.cpu == cpu)
 set_most cpu n [] i x = omega arith

@@ -1,4 +1,4 @@
--- Where nobody may create, each turn of a processor that isn't due is the highest priority's, as long as it may run.
+-- Where none may create, each turn of a processor that isn't due is the highest priority's, as long as it may run.
 use Rattle.std.proofs.Common.{◌≡◌, ℕ, ◌<◌, ◌+◌, List, [], ◌∷◌, inl, inr, refl, sym, ap, ap₂, ◌∙◌, subst, arith}
 use Rattle.std.specs.Prelude.{◌≢◌, ◌||◌, Bool, true, false, ◌==◌, ◌&&◌, is_none, is_some, Option, Some, None, option_and_then}
 use Rattle.std.proofs.lemmas.Bool.{eq-eqb, eqb-true}
@@ -31,7 +31,7 @@ never_runs k ec kept dead may =
     let itself : chase k.contexts ec ≡ ec = (chases_go_on k.contexts ec kept.edges).ends (ap₂ (λ (t : Bool) (o : Option ℕ). t || is_none o) rests (ap (option_and_then edge_of) dead)) in
     let both : true ≡ false = sym may ∙ ap (acts k.contexts) itself ∙ rests in cc
 
--- a candidate other than the one that outranks all has a lesser priority
+-- a candidate other than that which outranks all has a lesser priority
 pub outranked : (k : KernelState) (cpu sc priority : ℕ) (c : Candidate) → IsKept k → OutranksOthers k cpu sc priority → choice k cpu ≡ Some c → c.sc ≢ sc → c.priority < priority
 outranked k cpu sc priority c kept outranks is other =
     let candidate = the_chosen k cpu c is in

@@ -1,4 +1,4 @@
--- Who gives items is done with them in time: each of its own turns gives of the places that are left, or ends an item.
+-- A context that gives items is done with them in time: each of its own turns gives of the places that are left, or ends an item.
 use Rattle.std.proofs.Common.{◌≡◌, ℕ, suc, ◌<◌, ◌≤◌, ◌+◌, ◌-◌, List, [], ◌∷◌, length, refl, sym, ap, ap₂, ◌∙◌, subst, arith}
 use Rattle.std.specs.Prelude.{◌≢◌, Bool, true, false, ◌==◌, if◌then◌else◌, Option, Some, None, is_some, option_map, slice_get}
 use Rattle.std.proofs.lemmas.Bool.{eq-eqb, eqb-true}

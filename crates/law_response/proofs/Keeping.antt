@@ -1,4 +1,4 @@
--- Who gives items, and still does after a turn, has its registers and its caller.
+-- A context that gives items, and still does after a turn, has its registers and its caller.
 use Rattle.std.proofs.Common.{◌≡◌, ℕ, length, refl, sym, ap, ◌∙◌, subst}
 use Rattle.std.specs.Prelude.{true, false, Option, Some, None, option_map}
 use Rattle.nova_range.specs.declared.status.Status.TheVariants.{Success}

@@ -1,4 +1,4 @@
--- Where a deadline's moment has come something is due, and until its execution context acts it stands, or that one acts by itself.
+-- Where a deadline's moment has come something is due, and until its execution context acts it stands, or that context acts by itself.
 use Rattle.std.proofs.Common.{◌≡◌, ℕ, zero, suc, ◌≤◌, ◌+◌, List, [], ◌∷◌, length, inl, inr, refl, sym, ap, ◌∙◌, subst, arith}
 use Rattle.std.specs.Prelude.{◌≢◌, ◌⊎◌, Bool, true, false, ◌==◌, nat_le, is_some, slice_get, slice_index, slice_set, Option, Some, None, IfSome, option_map, option_and_then, Contains}
 use Rattle.std.proofs.lemmas.Bool.{eqb-true, eqb-false}
@@ -67,7 +67,7 @@ clock_rises k by cpu = elim (comes k by) [
 
 -- IT STANDS, OR ITS EXECUTION CONTEXT ACTS BY ITSELF
 
--- another's deed leaves a deadline, or wakes the one that has it
+-- another's deed leaves a deadline, or wakes the context that has it
 deed_stands : (ds : List (Option Deadline)) (a n : ℕ) (d : Deed) (x : Deadline) → n ≢ a → entry (slice_get ds n) ≡ Some x →
     (entry (slice_get (deadlines_with ds (deadline_by a d)) n) ≡ Some x) ⊎ ((sm : ℕ) × (d ≡ Ups sm (Some n)))
 deed_stands ds a n (Ups sm None) x other is = inl is
@@ -88,7 +88,7 @@ joined_stands ds (Some made) n x is = entry_kept ds None n x is
 pub answered_ready : (cs : Contexts) (n : ℕ) (x y : EcState) → ec_in cs n ≡ Some x → y.state ≡ Ready → state_in (with_ec cs n y) n ≡ Some Ready
 answered_ready cs n x y there ready = ap state_at (entry_itself cs n y (rw there refl)) ∙ ap Some ready
 
--- who is woken by another
+-- a context that is woken by another
 pub ups_ready : (k : KernelState) (a n sm : ℕ) (x : EcState) → ec_in k.contexts n ≡ Some x → n ≢ a → state_in (all_edited k.contexts (edits_by k a (Ups sm (Some n)))) n ≡ Some Ready
 ups_ready k a n sm x there other =
     let y = answered (ec_of k.contexts a) Success None in

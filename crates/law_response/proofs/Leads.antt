@@ -1,4 +1,4 @@
--- One whose turns lead to another that acts stays so in each turn in which that one doesn't act.
+-- A context whose turns lead to another that acts stays so in each turn in which the other doesn't act.
 use Rattle.std.proofs.Common.{◌≡◌, ℕ, zero, suc, ◌<◌, [], ◌∷◌, ◌++◌, length, refl, sym, ap, ap₂, ◌∙◌, subst, arith, IsSome}
 use Rattle.std.specs.Prelude.{◌≢◌, Bool, true, false, ◌==◌, ◌||◌, nat_lt, is_none, Option, Some, None, IfSome, option_map, option_and_then, slice_get}
 use Rattle.std.proofs.lemmas.Bool.{eqb-true}
@@ -59,7 +59,7 @@ beyond g (suc m) (suc n) e f x lt first second = by_edge (g e) first second (λ 
     by_edge None a b go = absurd cc
     by_edge (Some z) a b go = go z a b
 
--- one that acts waits for one that is free alone, and that one waits for none
+-- a context that acts waits only for a free handler, and that waits for none
 dead_free : (o : Option State) → is_dead o ≡ true → is_free o ≡ true
 dead_free (Some Dead) h = refl
 dead_free None h = absurd cc
@@ -84,7 +84,7 @@ free_ends (Some Dead) h = refl
 free_ends None h = refl
 free_ends (Some other) h = absurd cc
 
--- where turns lead to one that acts, they meet no other with which turns stay, unless it is free
+-- where turns lead to a context that acts, they meet no other with which turns stay, unless it is free
 not_met : (cs : Contexts) (e g : ℕ) → AreEdges cs → leads cs e ≡ true → stays cs g ≡ true → g ≢ chase cs e → is_free (state_in cs g) ≡ false →
     (n : ℕ) → after_edges n (edge cs) e ≢ Some g
 not_met cs e g sound able halts other busy n way = by_less (nat_lt n end.edges) refl
@@ -156,7 +156,7 @@ led_same cs ec w x y there cpu same led = record {
   edges = edges_kept cs w x y led.edges there cpu same;
 }
 
--- one that acts comes to a state in which it acts, with no edge
+-- a context that acts comes to a state in which it acts, with no edge
 led_acting : (cs : Contexts) (ec g : ℕ) (x y : EcState) → acts cs g ≡ true → ec_in cs g ≡ Some x → y.cpu ≡ x.cpu → edge_of y.state ≡ None →
     ((handler : Option State) → acts_by y.state handler ≡ true) → IsLed cs ec → IsLed (with_ec cs g y) ec
 led_acting cs ec g x y able there cpu none alone led = record {
@@ -164,7 +164,7 @@ led_acting cs ec g x y able there cpu none alone led = record {
   edges = edges_set cs g x y None led.edges there cpu none tt;
 }
 
--- one that acts comes to any state, where it isn't the one to whom turns lead
+-- a context that acts comes to any state, where turns don't lead to it
 acts_halts : (cs : Contexts) (g : ℕ) → acts cs g ≡ true → stays cs g ≡ true
 acts_halts cs g able = ap (λ (t : Bool). t || is_none (edge cs g)) able
 
@@ -175,7 +175,7 @@ led_moving cs ec g x y able there cpu may other led = record {
   edges = edges_set cs g x y (edge_of y.state) led.edges there cpu refl may;
 }
 
--- one that was blocked goes on
+-- a context that was blocked goes on
 led_woken : (cs : Contexts) (ec w sm : ℕ) (status : Status) → state_in cs w ≡ Some (Blocked sm) → IsLed cs ec → IsLed (with_ec cs w (answered (ec_of cs w) status None)) ec
 led_woken cs ec w sm status blocked led =
     let idle : acts cs w ≡ false = ap (acts_as cs) blocked in

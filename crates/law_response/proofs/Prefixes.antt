@@ -53,7 +53,7 @@ run_schedule k [] sc ec cpu priority quantum b its = (b, its)
 run_schedule k (x ∷ xs) sc ec cpu priority quantum b its =
     let a = after_schedule k x sc ec cpu priority quantum b its in run_schedule (after k x) xs sc ec cpu priority quantum a.budget a.still
 
--- the first turns, with so many of the processor's among them
+-- the first turns, with `n` of the processor's among them
 pub record HasFirst (cpu n : ℕ) (turns : List ℕ) : Type 0 where
   pub part : List ℕ
   pub later : List ℕ

@@ -1,4 +1,4 @@
--- One that is recalled stays so until it acts.
+-- A recalled context stays so until it acts.
 use Rattle.std.proofs.Common.{◌≡◌, ℕ, List, [], ◌∷◌, inl, inr, refl, sym, ap, ◌∙◌, subst}
 use Rattle.std.specs.Prelude.{◌≢◌, true, Option, Some, None, option_map}
 use Rattle.nova_model.specs.Boot.{Scenario, boot}
@@ -34,7 +34,7 @@ use Rattle.law_response.proofs.Waiting.{IsReached, reached_after}
 abbrev IsRecalled : Option EcState → Type 0
 IsRecalled o = (context_in o).recall ≡ true
 
--- one that is there before and after
+-- a context that is there before and after
 kept_by : (old new : Option EcState) (x y : EcState) → old ≡ Some x → new ≡ Some y → y.recall ≡ x.recall → IsRecalled old → IsRecalled new
 kept_by old new x y was is same asked =
     ap (λ (o : Option EcState). (context_in o).recall) is ∙ same ∙ sym (ap (λ (o : Option EcState). (context_in o).recall) was) ∙ asked

@@ -1,4 +1,4 @@
--- Whoever may run acts in time: what stands before it, what is due and what is of a greater priority are all that come first.
+-- A context that may run acts in time: what stands before it, what is due and what is of a greater priority are all that come first.
 use Rattle.std.proofs.Common.{◌≡◌, ℕ, List, [], ◌∷◌, refl, sym, ap, ◌∙◌, subst, arith}
 use Rattle.std.specs.Prelude.{◌≢◌, Bool, true, false, ◌==◌, Option, Some, None, option_map}
 use Rattle.std.proofs.lemmas.Bool.{eqb-true}
@@ -35,7 +35,7 @@ pub still_runs : (k : KernelState) (by sc ec cpu priority quantum : ℕ) (b : Bu
     option_map (λ (c : Candidate). c.actor) (next_to_act k by) ≢ Some (actor k ec) → MayRun (after k by) ec
 still_runs k by sc ec cpu priority quantum b r its may await = led_after k by ec (reached_is_kept k r) (owner_apart k sc ec cpu priority quantum b r its) may await
 
--- it pays for none in which that one doesn't act
+-- it pays for none in which that context doesn't act
 pub pays_none : (k : KernelState) (by sc ec cpu priority quantum : ℕ) (b : Budget) → IsSchedule k sc ec cpu priority quantum b →
     option_map (λ (c : Candidate). c.actor) (next_to_act k by) ≢ Some (actor k ec) → is_paid_by sc (next_to_act k by) ≡ false
 pays_none k by sc ec cpu priority quantum b its await = by_choice (next_to_act k by) refl

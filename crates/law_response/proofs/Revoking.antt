@@ -1,4 +1,4 @@
--- One that revokes stays runnable, so that its revoke ends in time.
+-- A context that revokes stays runnable, so that its revoke ends in time.
 use Rattle.std.proofs.Common.{◌≡◌, ℕ, ◌≤◌, List, [], ◌∷◌, length, refl, ap, ◌∙◌, arith}
 use Rattle.std.specs.Prelude.{Bool, true, false, ◌==◌, if◌then◌else◌, Option, Some, None}
 use Rattle.std.proofs.lemmas.Bool.{eqb-true}

@@ -1,4 +1,4 @@
--- What a turn does to what stands before a stamp: one that is charged before it takes one off.
+-- What a turn does to what stands before a stamp: a scheduling context that is charged before it takes one off.
 use Rattle.std.proofs.Common.{◌≡◌, ℕ, zero, suc, ◌≤◌, ◌+◌, ◌-◌, List, [], ◌∷◌, ◌++◌, length, refl, ap, ap₂, ◌∙◌, arith}
 use Rattle.std.specs.Prelude.{Bool, true, false, ◌==◌, ◌&&◌, nat_lt, if◌then◌else◌, slice_get, slice_set, Option, Some, None}
 use Rattle.nova_objects.specs.declared.object.Object.{Object}
@@ -43,7 +43,7 @@ set_ahead cpu priority stamp (y ∷ os) (Some c ∷ bs) zero o b x at there =
     omega (arith, first, second)
 set_ahead cpu priority stamp (y ∷ os) (c ∷ bs) (suc sc) o b x at there = omega (arith, set_ahead cpu priority stamp os bs sc o b x at there)
 
--- ONE THAT IS CHARGED
+-- A SCHEDULING CONTEXT THAT IS CHARGED
 
 less_before : (t : Bool) (stamp next quantum : ℕ) (b : Budget) → stamp ≤ next → (b.left - 1 == 0) ≡ t →
     left_before stamp (Some b) ≡ left_before stamp (Some (budget_after t quantum next b)) + one_if (nat_lt b.stamp stamp)
@@ -87,7 +87,7 @@ new_part cpu priority stamp next (new.Sm count) rises = refl
 
 -- A TURN
 
--- one of this processor and priority, that stands before the stamp, pays
+-- a scheduling context of this processor and priority, that stands before the stamp, pays
 abbrev pub is_peer_at : ℕ → ℕ → Option Object → Bool
 is_peer_at cpu priority None = false
 is_peer_at cpu priority (Some o) = is_peer cpu priority o

@@ -74,7 +74,7 @@ rung_run k (by ∷ turns) n a at = elim (alarm_after k by n a at) [
       )
 ]
 
--- one that is the same at the end was so in between
+-- an alarm that is the same at the end was so in between
 still_after : (k : KernelState) (by : ℕ) (turns : List ℕ) (n : ℕ) (a : AlarmState) → slice_get k.times.alarms n ≡ Some a → slice_get (run (after k by) turns).times.alarms n ≡ Some a →
     slice_get (after k by).times.alarms n ≡ Some a
 still_after k by turns n a at ends = elim (alarm_after k by n a at) [

@@ -1,4 +1,4 @@
--- One that acts by itself goes on to do so until it acts.
+-- A context that acts by itself goes on to do so until it acts.
 use Rattle.std.proofs.Common.{◌≡◌, ℕ, List, [], ◌∷◌, length, inl, inr, refl, sym, ap, ◌∙◌, subst}
 use Rattle.std.specs.Prelude.{◌≢◌, ◌||◌, Bool, true, false, is_none, Option, Some, None, option_map, option_and_then}
 use Rattle.nova_model.specs.Boot.{Scenario, boot}
@@ -73,7 +73,7 @@ of_state cs ec s is = by_entry (ec_in cs ec) refl is
     by_entry None at h = absurd cc
     by_entry (Some x) at h = (x, at, (let same : x.state ≡ s = cc in same))
 
--- the state that a table has there is that of its entry, where that isn't the state of nobody
+-- the state that a table has there is that of its entry, where that isn't the state of no context
 pub kept_state : (o : Option EcState) (s : State) → (context_in o).state ≡ s → acts_itself s ≡ true → state_at o ≡ Some s
 kept_state None s is its = let none = ap acts_itself is in absurd cc
 kept_state (Some x) s is its = ap Some is
@@ -136,7 +136,7 @@ acts_in_time s before turns sc ec cpu priority quantum b x its at acts never =
     let so = stays_itself k turns ec x r at acts never in
     (awaited s before turns sc ec cpu priority quantum b its (itself_may k ec x (reached_is_kept k r) at acts) so.awaits, so.still)
 
--- WHO WAS BLOCKED
+-- A CONTEXT THAT WAS BLOCKED
 
 begun_itself : (s : State) → has_begun s ≡ true → acts_itself s ≡ true
 begun_itself Ready h = refl

@@ -1,4 +1,4 @@
--- Round and round: what the others of a priority may pay for between two stamps of one that stays runnable.
+-- Round and round: what the others of a priority may pay for between two stamps of a scheduling context that stays runnable.
 use Rattle.std.proofs.Common.{◌≡◌, ℕ, suc, ◌≤◌, ◌+◌, List, [], ◌∷◌, ◌++◌, refl, sym, ap, ◌∙◌, subst, arith}
 use Rattle.std.specs.Prelude.{Bool, true, false, not, ◌==◌, ◌&&◌, nat_lt, if◌then◌else◌, slice_get, Option, Some, None, IfSome}
 use Rattle.std.proofs.Math.Nat.{suc-mul}
@@ -61,7 +61,7 @@ ahead_others cpu priority sc stamp n (o ∷ os) (c ∷ bs) fits =
     first_others cpu priority sc stamp n o os c bs (λ b is. fits 0 o b refl is)
     (ahead_others cpu priority sc stamp (n + 1) os bs (later_fits cpu priority sc stamp n o os c bs fits))
 
--- one that joins
+-- a scheduling context that joins
 more_others : (cpu priority sc n : ℕ) (os : List Object) (o : Object) → others_in cpu priority sc n os ≤ others_in cpu priority sc n (os ++ o ∷ [])
 more_others cpu priority sc n [] o = omega arith
 more_others cpu priority sc n (x ∷ os) o = let rest = more_others cpu priority sc (n + 1) os o in omega (arith, rest)
@@ -87,7 +87,7 @@ run_others k [] cpu priority sc = omega arith
 run_others k (by ∷ turns) cpu priority sc =
     let first = after_others k by cpu priority sc in let rest = run_others (after k by) turns cpu priority sc in omega (arith, first, rest)
 
--- WHAT STANDS BEFORE ONE IS AT MOST WHAT THE OTHERS HAVE
+-- WHAT STANDS BEFORE A SCHEDULING CONTEXT IS AT MOST WHAT THE OTHERS HAVE
 
 left_most : (k : KernelState) (n : ℕ) (r : IsReached k) → 1 ≤ r.scenario.root.quantum → (ec cpu priority quantum : ℕ) (b : Budget) → slice_get k.objects n ≡ Some (Sc ec cpu priority quantum) →
     budget_at k n ≡ Some b → turns_left b ≤ full_quantum quantum

@@ -101,7 +101,7 @@ leads_on k ec h kept at idle =
 stays_on : (k : KernelState) (ec : ℕ) → IsKept k → acts k.contexts ec ≡ true → actor k ec ≡ ec
 stays_on k ec kept able = (chases_go_on k.contexts ec kept.edges).ends (ap (λ (t : Bool). t || is_none (edge k.contexts ec)) able)
 
--- who is chosen where `sc` may run and nothing is due, of the processor's
+-- the candidate that is chosen where `sc` may run and nothing is due, of the processor's
 record IsChosenFirst (k : KernelState) (cpu sc ec : ℕ) : Type 0 where
   chosen : Candidate
   acts : next_to_act k cpu ≡ Some chosen

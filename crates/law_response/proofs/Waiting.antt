@@ -137,12 +137,12 @@ summed k by cpu sc priority stamp here due above paid before h d a p f sum =
     (subst (λ (t : Bool). Sum here due t (is_paid_by sc (next_to_act k by)) (is_before k cpu priority stamp (next_to_act k by))) (sym a)
     (subst (λ (t : Bool). Sum here due above t (is_before k cpu priority stamp (next_to_act k by))) (sym p) (subst (λ (t : Bool). Sum here due above paid t) (sym f) sum))))
 
--- nobody acts
+-- none acts
 sum_none : (here : Bool) → Sum here true false false false
 sum_none true = refl
 sum_none false = refl
 
--- whether one that is chosen stands before the stamp
+-- whether a chosen scheduling context stands before the stamp
 before_is : (k : KernelState) (by cpu priority stamp : ℕ) (c : Candidate) → choice k by ≡ Some c →
     is_before k cpu priority stamp (Some c) ≡ (((by == cpu) && (c.priority == priority)) && nat_lt c.stamp stamp)
 before_is k by cpu priority stamp c is =

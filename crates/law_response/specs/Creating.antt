@@ -1,5 +1,5 @@
--- Who may create, in one state. A scheduling context comes of a call of `create_sc`, for which the caller's protection domain holds a protection domain with the right to create; so where
--- nobody holds that right, scheduling contexts, their processors and priorities stay as they are.
+-- The contexts that may create, in one state. A scheduling context comes of a call of `create_sc`, for which the caller's protection domain holds a
+-- protection domain with the right to create; so where none holds that right, scheduling contexts, their processors and priorities stay as they are.
 use Rattle.std.specs.Prelude.{◌≡◌, ◌≢◌, ◌<◌, ◌⊎◌, ℕ, slice_get, Some}
 use Rattle.nova_objects.specs.declared.object.Object.TheVariants.{Sc}
 use Rattle.nova_model.specs.Edges.{state_in}
@@ -8,7 +8,7 @@ use Rattle.nova_model.specs.declared.context.State.{State}
 use Rattle.nova_model.specs.declared.context.State.TheVariants.{Dead}
 use Rattle.law_forest.specs.Made.{MayCreate}
 
--- the execution context, if there is one of this number, is dead, or its protection domain holds no right to create
+-- the execution context of this number, if there is one, is dead, or its protection domain holds no right to create
 abbrev pub CreatesNothing : KernelState → ℕ → Type 0
 CreatesNothing k n = (s : State) → state_in k.contexts n ≡ Some s → s ≢ Dead → MayCreate k (pd_of k n) → ⊥
 

@@ -17,16 +17,16 @@ abbrev pub places_left : Option (Range × Rights) → ℕ → ℕ
 places_left None cursor = 0
 places_left (Some (range, rights)) cursor = end_of range - max range.base cursor
 
--- an item of these two words: at most a turn for each of its places, where it delegates, and one that ends it
+-- an item of these two words: at most a turn for each of its places, where it delegates, and a turn that ends it
 abbrev pub item_turns : ℕ × ℕ → ℕ → ℕ
 item_turns words cursor = (if words.1 % 2 == 1 then places_left (read_as (meaning_of words.0)) cursor else 0) + 1
 
--- so many items of a message, from this number on
+-- as many items of a message as the number says, from `item` on
 abbrev pub later_turns : List ℕ → ℕ → ℕ → ℕ
 later_turns m item zero = 0
 later_turns m item (suc n) = item_turns (item_at m item) 0 + later_turns m (item + 1) n
 
--- the present item from the cursor on, and those that come later: of this thread's message, or the one range of a creator
+-- the present item from the cursor on, and those that come later: of this thread's message, or the single range of a creator
 abbrev pub turns_from : KernelState → ℕ → Option ℕ → ℕ → ℕ → ℕ
 turns_from k ec None item cursor = item_turns (reg (context k ec).regs 12, 1) cursor
 turns_from k ec (Some thread) item cursor =

@@ -39,6 +39,6 @@ pub record IsReaction (k : KernelState) (waits works rest : List ℕ) (cpu drive
   pub few : sets_in k cpu ((waits ++ works) ++ rest) ≤ begun
   pub nothing : (run k ((waits ++ works) ++ rest)).objects ≡ k.objects
 
--- how often the alarms of the processor ring within so many of its turns, at most
+-- how often the alarms of the processor ring within `turns` of its turns, at most
 abbrev pub rings_within : KernelState → ℕ → ℕ → ℕ
 rings_within k cpu turns = all_rings_left cpu (clock k.times cpu + turns) k.times.alarms

@@ -1,4 +1,4 @@
--- How many rounds an execution context waits that waits for nobody and has the highest priority of its processor.
+-- How many rounds an execution context waits that waits for none and has the highest priority of its processor.
 use Rattle.std.specs.Prelude.{◌≡◌, ◌≤◌, ◌<◌, ◌+◌, ◌++◌, ℕ, List, length, slice_get, Some}
 use Rattle.std.specs.List.{concat}
 use Rattle.nova_objects.specs.declared.object.Object.TheVariants.{Sc}
@@ -12,7 +12,7 @@ use Rattle.law_response.specs.Waits.{ActsItself, IsSchedule, NeverActs, due_in, 
 abbrev pub IsHighest : KernelState → ℕ → ℕ → Type 0
 IsHighest k cpu priority = (n ec p quantum : ℕ) → slice_get k.objects n ≡ Some (Sc ec cpu p quantum) → p ≤ priority
 
--- after the rounds `before` the execution context waits for nobody and has this scheduling context, and in the rounds `these` it doesn't act
+-- after the rounds `before` the execution context waits for none and has this scheduling context, and in the rounds `these` it doesn't act
 pub record IsPassedOver (k : KernelState) (before these : List (List ℕ)) (sc ec cpu priority quantum : ℕ) : Type 0 where
   pub budget : Budget
   pub schedule : IsSchedule (run k (concat before)) sc ec cpu priority quantum budget

@@ -19,11 +19,11 @@ pub record IsSchedule (k : KernelState) (sc ec cpu priority quantum : ℕ) (b : 
   pub object : slice_get k.objects sc ≡ Some (Sc ec cpu priority quantum)
   pub budget : budget_at k sc ≡ Some b
 
--- the turns of an execution context lead, along donation, to one that acts
+-- the turns of an execution context lead, along donation, to a context that acts
 abbrev pub MayRun : KernelState → ℕ → Type 0
 MayRun k ec = acts k.contexts (actor k ec) ≡ true
 
--- a deadline or an alarm of a processor is due, so that nobody acts in its next turn
+-- a deadline or an alarm of a processor is due, so that none acts in its next turn
 abbrev pub is_due : KernelState → ℕ → Bool
 is_due k cpu = is_some (due_on k.times cpu)
 
@@ -48,7 +48,7 @@ abbrev pub is_peer : ℕ → ℕ → Object → Bool
 is_peer cpu priority (Sc ec its_cpu its_priority quantum) = (its_cpu == cpu) && (its_priority == priority)
 is_peer cpu priority other = false
 
--- those turns, if the budget's stamp is less than this one
+-- those turns, if the budget's stamp is less than `stamp`
 abbrev pub left_before : ℕ → Option Budget → ℕ
 left_before stamp None = 0
 left_before stamp (Some b) = if nat_lt b.stamp stamp then turns_left b else 0
@@ -112,7 +112,7 @@ pub record HasAwaited (k : KernelState) (turns : List ℕ) (sc ec cpu priority :
   pub none : paid_in k sc turns ≡ 0
   pub count : IsInTime k turns cpu priority b
 
--- EXECUTION CONTEXTS THAT WAIT FOR NOBODY
+-- EXECUTION CONTEXTS THAT WAIT FOR NONE
 
 -- in these states an execution context acts in its own turns, whatever others do
 abbrev pub acts_itself : State → Bool

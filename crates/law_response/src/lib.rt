@@ -50,9 +50,9 @@ pub fn a_runnable_context_waits_for_its_ring()
         HasWaited (run (boot scenario) before) turns sc ec cpu priority quantum b }
 {}
 
-/// Where the turns of `ec`, along donation, lead to an execution context that acts, they do so until that one acts. Until then its
-/// scheduling context pays for no turn, and each turn of its processor is due, of a greater priority, or lowers by 1 what is ahead of it.
-/// So that one acts after at most `ahead` turns of the processor beside those due and those of a greater priority.
+/// Where the turns of `ec`, along donation, lead to an execution context that acts, they do so until that context acts. Until then its scheduling
+/// context pays for no turn, and each turn of its processor is due, of a greater priority, or lowers by 1 what is ahead of it. So that context acts
+/// after at most `ahead` turns of the processor beside those due and those of a greater priority.
 pub fn the_end_of_a_chain_acts_in_time()
     ensures { (scenario : Scenario) (before turns : List ℕ) (sc ec cpu priority quantum : ℕ) (b : Budget) →
         IsSchedule (run (boot scenario) before) sc ec cpu priority quantum b →
@@ -61,9 +61,9 @@ pub fn the_end_of_a_chain_acts_in_time()
         HasAwaited (run (boot scenario) before) turns sc ec cpu priority b }
 {}
 
-/// An execution context that is fresh, ready, exiting, granting, replying or revoking, and has a scheduling context, stays in that state
-/// until it acts, whatever others do, and acts after at most `ahead` turns of its processor beside those due and those of a greater
-/// priority. An execution context that was blocked at a semaphore, and after a turn isn't, is in one of these states then.
+/// An execution context that is fresh, ready, exiting, granting, replying or revoking, and has a scheduling context, stays in that state until it
+/// acts, whatever others do. It acts after at most `ahead` turns of its processor beside those due and those of a greater priority. An execution
+/// context that was blocked at a semaphore, and after a turn isn't, is in one of these states then.
 pub fn a_context_that_waits_for_nobody_acts_in_time()
     ensures acts { (scenario : Scenario) (before turns : List ℕ) (sc ec cpu priority quantum : ℕ) (b : Budget) (s : State) →
         IsSchedule (run (boot scenario) before) sc ec cpu priority quantum b →
@@ -103,15 +103,15 @@ pub fn turns_that_are_due_are_bounded()
     ensures { (scenario : Scenario) (before turns : List ℕ) (cpu : ℕ) → AreDueBounded (run (boot scenario) before) turns cpu }
 {}
 
-/// An alarm rings by a clock only at its moments: the last of the rings that it has left by then has its moment at the clock or before, and
-/// before its next moment it has none. So it has at most (clock - next moment) / period + 1 left.
+/// An alarm rings by a clock only at its moments. The last of the rings that it has left by then has its moment at the clock or before, and before
+/// its next moment it has none. So it has at most (clock - next moment) / period + 1 left.
 pub fn an_alarm_rings_once_a_period()
     ensures last { (a : AlarmState) (at : ℕ) → 1 ≤ rings_left at a → moment a.alarm (a.rings + (rings_left at a - 1)) ≤ at }
     ensures none { (a : AlarmState) (at : ℕ) → at < moment a.alarm a.rings → rings_left at a ≡ 0 }
 {}
 
-/// From its moment on until it rings, an alarm's processor has at most as many turns as its alarms ring there by then and deadlines stood,
-/// whoever waits at the alarm's semaphore, on whatever processor, and also where nobody does. Then the first that waited waits for nobody.
+/// From its moment on until it rings, an alarm's processor has at most as many turns as its alarms ring there by then and deadlines stood, whichever
+/// contexts wait at the alarm's semaphore, on whatever processor, and also where none does. Then the first that waited waits for none.
 pub fn an_alarm_rings_in_time()
     ensures { (scenario : Scenario) (before turns : List ℕ) (n : ℕ) (a : AlarmState) →
         slice_get (run (boot scenario) before).times.alarms n ≡ Some a →
@@ -121,8 +121,8 @@ pub fn an_alarm_rings_in_time()
         IsPrompt (run (boot scenario) before) turns a.alarm.cpu }
 {}
 
-/// An execution context that is ready, and whose recall is asked for, acts after at most `ahead` turns of its processor beside those due and
-/// those of a greater priority, and then raises the exit of a recall, before any instruction.
+/// An execution context that is ready, and whose recall is asked for, acts after at most `ahead` turns of its processor beside those due and those of
+/// a greater priority. It then raises the exit of a recall, before any instruction.
 pub fn a_recall_comes_in_time()
     ensures { (scenario : Scenario) (before turns : List ℕ) (sc ec cpu priority quantum : ℕ) (b : Budget) →
         IsSchedule (run (boot scenario) before) sc ec cpu priority quantum b →
@@ -142,10 +142,10 @@ pub fn nothing_is_made_without_the_right_to_create()
         NobodyCreates (run (run (boot scenario) before) turns) }
 {}
 
-/// A driver acts within as many turns of its processor, from its moment on, as rings come there by then and deadlines stood: an execution
-/// context whose scheduling context outranks all others of the processor, and beside which nobody may create, from the moment of its
-/// deadline on, and such a context that is the first to wait at the semaphore of an alarm, from the alarm's moment on. All premises but the
-/// last are on the state at that moment.
+/// A driver acts within as many turns of its processor, from its moment on, as rings come there by then and deadlines stood. A driver is an execution
+/// context whose scheduling context outranks all others of the processor, and beside which none may create, from the moment of its deadline on, and
+/// such a context that is the first to wait at the semaphore of an alarm, from the alarm's moment on. All premises but the last are on the state at
+/// that moment.
 pub fn a_driver_acts_in_time()
     ensures deadline { (scenario : Scenario) (before turns : List ℕ) (sc ec priority quantum : ℕ) (b : Budget) (d : Deadline) →
         IsSchedule (run (boot scenario) before) sc ec d.cpu priority quantum b →
@@ -183,9 +183,9 @@ pub fn the_highest_priority_goes_first()
         actor (run (boot scenario) before) ec ≡ actor (run (boot scenario) before) h }
 {}
 
-/// Where nobody may create, and scheduling context `sc` outranks all others of its processor, each turn of the processor is due or paid for
-/// by `sc`, as long as it may run. So while its execution context calls, from the call's first turn to its last, all turns but those due
-/// go to its chain, unless that blocks at a semaphore.
+/// Where none may create, and scheduling context `sc` outranks all others of its processor, each turn of the processor is due or paid for by `sc`, as
+/// long as it may run. So while its execution context calls, from the call's first turn to its last, all turns but those due go to its chain, unless
+/// that blocks at a semaphore.
 pub fn the_highest_priority_has_every_turn()
     ensures { (scenario : Scenario) (before turns : List ℕ) (sc ec cpu priority quantum : ℕ) (b : Budget) →
         NobodyCreates (run (boot scenario) before) →
@@ -195,10 +195,10 @@ pub fn the_highest_priority_has_every_turn()
         turns_at cpu turns ≡ due_in (run (boot scenario) before) cpu turns + paid_in (run (boot scenario) before) sc turns }
 {}
 
-/// Where nobody may create, and scheduling context `sc` outranks all others of its processor, its execution context, as long as it helps a
-/// handler, goes on to do so until it acts, and each turn of the processor is due or goes to where the handler's turns lead. So what its call
-/// waits for is due, or the handler's own work. Once the handler is parked, and nothing is due, it acts in the processor's next turn, and
-/// its call is taken, if its registers and its message still ask for one and their portal is of that handler.
+/// Where none may create, and scheduling context `sc` outranks all others of its processor, its execution context, as long as it helps a handler,
+/// goes on to do so until it acts. Each turn of the processor is due or goes to where the handler's turns lead. So what its call waits for is due, or
+/// the handler's own work. Once the handler is parked, and nothing is due, it acts in the processor's next turn, and its call is taken, if its
+/// registers and its message still ask for one and their portal is of that handler.
 pub fn a_call_of_the_highest_priority_is_taken_in_time()
     ensures helps { (scenario : Scenario) (before turns : List ℕ) (sc ec cpu priority quantum handler : ℕ) (b : Budget) →
         NobodyCreates (run (boot scenario) before) →
@@ -226,10 +226,10 @@ pub fn a_chain_of_calls_never_closes_to_a_circle()
     ensures { (scenario : Scenario) (turns : List ℕ) (ec n : ℕ) → after_edges (n + 1) (edge (run (boot scenario) turns).contexts) ec ≢ Some ec }
 {}
 
-/// A job of `own` turns of `sc` is done after `response` turns of its processor, by response-time analysis: `sc` stays runnable, at most
-/// `demand n` of the first n turns are due or of a greater priority, and `response` is enough for the demand of that many, what is ahead of
-/// `sc` in its ring, and the job (`once`: one that is within what is left of the quantum); or for these and the full quanta of its peers
-/// once for each of `rounds` renewals, where nobody may create and `own` is at most `rounds` full quanta and 1 (`rounds`).
+/// A job of `own` turns of `sc` is done after `response` turns of its processor, by response-time analysis. The premises are that `sc` stays
+/// runnable, at most `demand n` of the first n turns are due or of a greater priority, and `response` is enough for the demand of that many, what is
+/// ahead of `sc` in its ring, and the job (`once`: a job within what is left of the quantum); or for these and the full quanta of its peers once for
+/// each of `rounds` renewals, where none may create and `own` is at most `rounds` full quanta and 1 (`rounds`).
 pub fn a_job_ends_within_its_response_time()
     ensures once { (scenario : Scenario) (before turns : List ℕ) (sc ec cpu priority quantum own response : ℕ) (b : Budget) (demand : ℕ → ℕ) →
         IsSchedule (run (boot scenario) before) sc ec cpu priority quantum b →
@@ -279,16 +279,15 @@ pub fn a_moment_reaches_a_guest_in_time()
         turns_at cpu ((waits ++ works) ++ rest) < response }
 {}
 
-/// A call may never be taken between equals, by an example: a handler has no queue, and in each of the caller's turns it is at work for
-/// another thread of the same priority. The caller helps after each of 200 turns.
+/// A call may never be taken between equals, by an example. A handler has no queue, and in each of the caller's turns it is at work for another
+/// thread of the same priority. The caller helps after each of 200 turns.
 pub fn a_call_of_an_equal_may_not_be_taken()
     ensures { goes_on_helping 1 200 (run (boot callers) (replicate 62 0)) ≡ true }
 {}
 
-/// If the root's quantum is at least 1, what is ahead of a scheduling context is at most the full quanta of the others of its processor and
-/// priority. Over any turns in which it stays runnable, the turns of its processor are at most those due, those of a greater priority, its
-/// own, those ahead of it at the start, and the others' full quanta for each renewal of its stamp. The others stay as they are where nobody
-/// may create.
+/// If the root's quantum is at least 1, what is ahead of a scheduling context is at most the full quanta of the others of its processor and priority.
+/// Over any turns in which it stays runnable, the turns of its processor are at most those due, those of a greater priority, its own, those ahead of
+/// it at the start, and the others' full quanta for each renewal of its stamp. The others stay as they are where none may create.
 pub fn a_ring_goes_round()
     ensures most { (scenario : Scenario) (before : List ℕ) (sc ec cpu priority quantum : ℕ) (b : Budget) →
         1 ≤ scenario.root.quantum →
@@ -304,8 +303,8 @@ pub fn a_ring_goes_round()
         others (run (run (boot scenario) before) turns) cpu priority sc ≡ others (run (boot scenario) before) cpu priority sc }
 {}
 
-/// Under round robin, each round before the last turn that may be taken has one turn of a processor on which an execution context with a
-/// scheduling context waits for nobody and doesn't act. So the laws above bound in rounds what they bound in turns of a processor.
+/// Under round robin, each round before the last turn that may be taken has one turn of a processor on which an execution context with a scheduling
+/// context waits for none and doesn't act. So the laws above bound in rounds what they bound in turns of a processor.
 pub fn round_robin_serves_each_processor()
     ensures { (scenario : Scenario) (before : List ℕ) (rounds : List (List ℕ)) (most sc ec cpu priority quantum : ℕ) (b : Budget) (s : State) →
         cpu < (run (boot scenario) before).cpus →
@@ -318,9 +317,9 @@ pub fn round_robin_serves_each_processor()
         turns_at cpu (concat rounds) ≡ length rounds }
 {}
 
-/// An order by round robin from a boot state, whose root has a quantum of at least 1, serves each execution context that waits for nobody
-/// and has the highest priority of its processor. It is passed over in at most as many rounds as have a turn that is due there, and as come
-/// to the full quanta of the others of its priority, but for the round of the last turn that may be taken.
+/// An order by round robin from a boot state, whose root has a quantum of at least 1, serves each execution context that waits for none and has the
+/// highest priority of its processor. It is passed over in at most as many rounds as have a turn that is due there, and as come to the full quanta of
+/// the others of its priority, but for the round of the last turn that may be taken.
 pub fn round_robin_serves_the_highest_priority()
     ensures { (scenario : Scenario) (most : ℕ) → 1 ≤ scenario.root.quantum → ServesInRounds (boot scenario) most (rounds (boot scenario) most) }
 {}
@@ -335,10 +334,9 @@ pub fn a_revoke_ends_in_time()
         HasShared (run (boot scenario) before) turns sc ec cpu priority quantum b × (paid_in (run (boot scenario) before) sc turns ≤ length (left r (run (boot scenario) before))) }
 {}
 
-/// From a state on, an execution context that gives items takes at most as many turns for them as the items that are left have words of: a
-/// turn for each place of the range of an item that delegates, from the cursor on for the present one, and one for the end of each. One
-/// with a scheduling context stays runnable meanwhile, and pays for no more than these, so that the law of rings bounds the turns of its
-/// processor.
+/// From a state on, the words of the items that are left bound the turns that an execution context takes to give them. There is at most a turn for
+/// each place of the range of an item that delegates, from the cursor on for the present one, and one for the end of each. An execution context with
+/// a scheduling context stays runnable meanwhile, and pays for no more than these, so that the law of rings bounds the turns of its processor.
 pub fn items_end_in_time()
     ensures acts { (scenario : Scenario) (before turns : List ℕ) (ec : ℕ) →
         GivesAlong (run (boot scenario) before) ec turns →

@@ -114,7 +114,7 @@ pub reached_told : (s : Scenario) (before : List ℕ) (cpu ec : ℕ) → HasEven
     HasEnded (run (boot s) before) cpu ec
 reached_told s before cpu ec h = told (run (boot s) before) cpu ec (reached_sound s before) h
 
--- FROM THE ONE TO THE OTHER
+-- FROM THE BEGINNING TO THE END
 
 pub at_most_once : (ec : ℕ) (o : Option Candidate) → acts_once ec o ≤ 1
 at_most_once ec None = omega arith

@@ -1,4 +1,4 @@
--- The turn of the one who acts, and what it is for a revoke.
+-- The turn of the context that acts, and what it is for a revoke.
 use Rattle.law_forest.specs.Turns.{is_passing}
 use Rattle.std.proofs.Common.{◌≡◌, ℕ, ap, sym, ◌∙◌, subst, refl}
 use Rattle.std.specs.Prelude.{◌==◌, Bool, true, false, Option, Some, None, option_map}
@@ -33,7 +33,7 @@ use Rattle.law_revocation.specs.Taken.{IsClear}
 use Rattle.law_revocation.specs.Whole.{HasReturned}
 use Rattle.law_revocation.proofs.Taking.{cleared}
 
--- WHO ACTS
+-- WHICH CONTEXT ACTS
 
 -- an execution context acts in the turn, or it doesn't
 pub data HasPart (k : KernelState) (cpu ec : ℕ) : Type 0 where
@@ -84,7 +84,7 @@ turn_event k cpu ec d acts is = who_acts (λ n. deed k n ≡ d → HasEvent k cp
       b = ap (λ (e : Deed). (sign_of e).2) its;
     }
 
--- whom an event names acts
+-- the context that an event names acts
 pub event_acts : (k : KernelState) (cpu ec : ℕ) (e : Event) → is_passing e.kind ≡ false → answer_of (turn k cpu) ≡ Stepped e → e.ec ≡ ec → Acts k cpu ec
 event_acts k cpu ec e other answers its =
     of_event (λ (f : Event). f.ec ≡ ec → Acts k cpu ec) k cpu e other answers
@@ -112,7 +112,7 @@ stays_apart k cpu ec kept another = turns_leave k cpu kept ec ∙ by_choice (nex
     by_choice None idle = refl
     by_choice (Some c) chosen = others_stay k c.actor ec (deed k c.actor) (another c chosen)
 
--- ONE THAT REVOKES
+-- A CONTEXT THAT REVOKES
 
 revoking_deed : (k : KernelState) (ec : ℕ) (r : Revocation) → revoke_of k ec ≡ Some r → deed k ec ≡ removes (next_leaf r k.delegations)
 unfolding deed

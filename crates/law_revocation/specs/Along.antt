@@ -1,4 +1,4 @@
--- A revoke along turns: who acts in them, what their events tell, and what runs meanwhile.
+-- A revoke along turns: which contexts act in them, what their events tell, and what runs meanwhile.
 use Rattle.std.specs.Prelude.{◌≡◌, ℕ, ◌+◌, ◌==◌, if◌then◌else◌, List, [], ◌∷◌, Option, Some, None}
 use Rattle.nova_model.specs.Choice.{Candidate, next_to_act}
 use Rattle.nova_model.specs.Revokes.{Revocation}
@@ -10,7 +10,7 @@ use Rattle.nova_model.specs.declared.event.Event.{Event}
 use Rattle.nova_model.specs.declared.event.EventKind.{EventKind}
 use Rattle.nova_model.specs.declared.event.Turn.TheVariants.{Stepped}
 
--- 1 where it acts in the turn of the processor, and 0 where another one acts or the processor is idle
+-- 1 where it acts in the turn of the processor, and 0 where another acts or the processor is idle
 abbrev pub acts_once : ℕ → Option Candidate → ℕ
 acts_once ec None = 0
 acts_once ec (Some c) = if c.actor == ec then 1 else 0

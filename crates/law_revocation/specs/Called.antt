@@ -6,8 +6,8 @@ use Rattle.nova_model.specs.State.{KernelState}
 use Rattle.law_revocation.specs.Along.{Runs}
 use Rattle.law_revocation.specs.Whole.{RevokeBegins, RevokeEnds, HasReturned, BeginsAsAsked}
 
--- one of these turns began the revoke: the execution context acted in it, and its registers asked for just this revoke, which it did not run
--- before; and it has run this one ever since, in each state from that turn to the last
+-- one of these turns began the revoke: the execution context acted in it, and its registers asked for just this revoke, which it did not run before;
+-- and it has run this revoke ever since, in each state from that turn to the last
 pub record WasCalled (k : KernelState) (turns : List ℕ) (ec : ℕ) (r : Revocation) : Type 0 where
   pub before : List ℕ
   pub first : ℕ

@@ -60,8 +60,8 @@ pub data IsRemoved (r : Revocation) (list : List Derivation) (d : Derivation) : 
   Given : (c : Derivation) → IsOnLine list c d → IsGivenOfRange r list c → IsRemoved r list d
   Own : (a : Derivation) → IsOnLine list a d → IsOwn r a → IsRemoved r list d
 
--- nothing of it is left: what the revoker reached by a place of the range, nobody reaches by anything that comes from there; and where the
--- revoker's own go too, it holds nothing that lies in the range
+-- nothing of it is left: nothing that comes from the range still leads to a target that the revoker reached by a place of it; and where the revoker's
+-- own go too, it holds nothing that lies in the range
 pub record IsClear (r : Revocation) (list : List Derivation) : Type 0 where
   pub given : (d a : Derivation) (target : ℕ) → Contains list d → IsAncestor list a d → IsRevokersTarget r a target → LeadsTo d target → ⊥
   pub own : (a : Derivation) → Contains list a → IsOwn r a → ⊥

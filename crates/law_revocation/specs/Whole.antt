@@ -26,7 +26,7 @@ RevokeBegins k cpu ec r = (revoke_of k ec ≢ Some r) × (revoke_of (after k cpu
 abbrev pub RevokeEnds : KernelState → ℕ → ℕ → Revocation → Type 0
 RevokeEnds k cpu ec r = (revoke_of k ec ≡ Some r) × (revoke_of (after k cpu) ec ≢ Some r)
 
--- the one who runs it is answered in the turn: SUCCESS, to its call of revoke
+-- the context that runs it is answered in the turn: SUCCESS, to its call of revoke
 pub record IsRevokeAnswered (k : KernelState) (cpu ec : ℕ) (r : Revocation) : Type 0 where
   pub runs : revoke_of k ec ≡ Some r
   pub event : HasEvent k cpu ec Answer REVOKE (status_code Success)
@@ -39,7 +39,7 @@ pub record BeginsAsAsked (k : KernelState) (cpu ec : ℕ) (r : Revocation) : Typ
   pub delegations : (after k cpu).delegations ≡ k.delegations
   pub event : HasEvent k cpu ec Begin REVOKE r.range.base
 
--- over these turns nothing joins what it takes away, and each turn of the one who runs it takes one of that
+-- over these turns nothing joins what it takes away, and each turn of the context that runs it takes a derivation of that
 pub record HasShrunk (k : KernelState) (turns : List ℕ) (ec : ℕ) (r : Revocation) : Type 0 where
   pub among : (d : Derivation) → Contains (left r (run k turns)) d → Contains (left r k) d
   pub fewer : acts_in k ec turns + length (left r (run k turns)) ≤ length (left r k)
@@ -54,7 +54,7 @@ pub record HasReturned (k : KernelState) (cpu ec : ℕ) (r : Revocation) : Type 
   pub nothing : left r (after k cpu) ≡ []
   pub clear : IsClear r (after k cpu).delegations.list
 
--- it ran a revoke, and the turn ended that one, with nothing left
+-- it ran a revoke, and the turn ended that revoke, with nothing left
 pub record HasEnded (k : KernelState) (cpu ec : ℕ) : Type 0 where
   pub revoke : Revocation
   pub ends : RevokeEnds k cpu ec revoke

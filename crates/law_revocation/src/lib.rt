@@ -35,19 +35,20 @@ pub fn what_revokes_stand_on_is_kept()
 {}
 
 /// A derivation is in the scope of a revoke exactly where it comes of the range or, where the revoker's own go
-/// too, is one of these in it: it is there, and it or one that it comes from is a child of a derivation of the
-/// revoker's, of the range's kind, and leads to a target to which that one leads from a place of the range; or,
-/// where the revoker's own go too, is one of the revoker's that lies in the range. The scope is empty exactly
-/// where nothing is left of it: no derivation leads to what an ancestor of it, of the revoker's, leads to from
-/// a place of the range; and, where the revoker's own go too, the revoker has none that lies in the range.
+/// too, is one of these in it. That is, it is there, and it or one that it comes from is a child of a
+/// derivation of the revoker's, of the range's kind, and leads to a target to which that derivation leads from
+/// a place of the range; or, where the revoker's own go too, is one of the revoker's that lies in the range.
+/// The scope is empty exactly where nothing is left of it: no derivation leads to what an ancestor of it, of
+/// the revoker's, leads to from a place of the range; and, where the revoker's own go too, the revoker has none
+/// that lies in the range.
 pub fn a_scope_is_what_comes_from_the_range()
     ensures members { (r : Revocation) (f : Delegations) (d : Derivation) → IsForest f →
         Contains (scope r f.list) d ↔ (Contains f.list d × IsRemoved r f.list d) }
     ensures none { (r : Revocation) (f : Delegations) → IsForest f → (scope r f.list ≡ []) ↔ IsClear r f.list }
 {}
 
-/// A new derivation that fits is busy for a revoke exactly where the revoke would take it away, or where
-/// it is of the revoker's, of the range's kind, and shares a place with the range.
+/// A new derivation that fits is busy for a revoke exactly where the revoke would take it away or it is of the
+/// revoker's, of the range's kind, and shares a place with the range.
 pub fn what_a_revoke_would_take_is_busy()
     ensures { (r : Revocation) (f : Delegations) (x : Derivation) → IsForest f → IsFitting f x →
         (busy r f.list x ≡ true) ↔ (IsRemoved r (added f x).list x ⊎ (IsRevokers r x × SharesPlace (range_of x) r.range)) }
@@ -60,9 +61,9 @@ pub fn a_revoke_begins_with_its_scope()
     ensures { (k : KernelState) (cpu ec : ℕ) (r : Revocation) → IsKeptForest k → RevokeBegins k cpu ec r → BeginsAsAsked k cpu ec r }
 {}
 
-/// What an execution context runs after turns, where it ran no revoke before them, it called in one of
-/// them: it acted in that turn, its registers asked for this range and this flag, and it has run just this
-/// revoke in each state from then on. At boot no revoke runs, so that it holds of all that a kernel comes to.
+/// What an execution context runs after turns, where it ran no revoke before them, it called in one of them. It
+/// acted in that turn, its registers asked for this range and this flag, and it has run just this revoke in
+/// each state from then on. At boot no revoke runs, so that it holds of all that a kernel comes to.
 pub fn a_running_revoke_was_called()
     ensures turns { (k : KernelState) (turns : List ℕ) (ec : ℕ) (r : Revocation) → IsKeptForest k → revoke_of k ec ≡ None →
         revoke_of (run k turns) ec ≡ Some r → WasCalled k turns ec r }
@@ -70,20 +71,20 @@ pub fn a_running_revoke_was_called()
         revoke_of (run (boot scenario) turns) ec ≡ Some r → WasCalled (boot scenario) turns ec r }
 {}
 
-/// While an execution context runs a revoke, whatever turns are taken on whatever processors: what is in
-/// its scope after them was in it before them, and each of the turns in which that execution context acts
-/// takes one derivation of the scope away. So these turns and what is left are together at most as many
-/// as the scope had.
+/// While an execution context runs a revoke, the revoke's scope only shrinks. Whatever turns are taken on
+/// whatever processors, what is in the scope after them was in it before them, and each of the turns in which
+/// that execution context acts takes one derivation of the scope away. So these turns and what is left are
+/// together at most as many as the scope had.
 pub fn a_running_revoke_only_shrinks()
     ensures turns { (k : KernelState) (turns : List ℕ) (ec : ℕ) (r : Revocation) → IsKeptForest k → Runs k ec r turns → HasShrunk k turns ec r }
     ensures reached { (k : KernelState) (turns : List ℕ) (ec : ℕ) (r : Revocation) → IsReachable k → Runs k ec r turns → HasShrunk k turns ec r }
 {}
 
-/// A turn after which an execution context no longer runs its revoke is its own: its call is answered
-/// SUCCESS, delegations stay, and nothing of the revoke's scope is there. And where the event of a turn
-/// answers SUCCESS to the revoke that an execution context runs, it is such a turn. There is no other such
-/// event: whom one names as answered SUCCESS to a revoke runs a revoke, and the turn ends that one. Along
-/// turns from a boot state it is the one that it called: an earlier turn of its began just this one, as its
+/// A turn after which an execution context no longer runs its revoke is its own: its call is answered SUCCESS,
+/// delegations stay, and nothing of the revoke's scope is there. And where the event of a turn answers SUCCESS
+/// to the revoke that an execution context runs, it is such a turn. There is no other such event: if an event
+/// reports SUCCESS for a revoke, the context that it names was running one, and the turn ended it. Along turns
+/// from a boot state it is the revoke that it called: an earlier turn of its began just this revoke, as its
 /// registers asked then.
 pub fn a_returned_revoke_left_nothing()
     ensures ends { (k : KernelState) (cpu ec : ℕ) (r : Revocation) → IsKeptForest k → RevokeEnds k cpu ec r → HasReturned k cpu ec r }
@@ -94,9 +95,9 @@ pub fn a_returned_revoke_left_nothing()
         HasEvent (run (boot scenario) before) cpu ec Answer REVOKE (status_code Success) → HasEndedAsCalled (boot scenario) before cpu ec }
 {}
 
-/// From the turn in which an execution context begins a revoke to the turn in which it returns, whatever
-/// turns others take between, what is in the revoke's scope was in it at its call, and it acts in at most
-/// as many turns as the scope had members at its call, and two.
+/// From the turn in which an execution context begins a revoke to the turn in which it returns, whatever turns
+/// others take between, what is in the revoke's scope was in it at its call. And it acts in at most as many
+/// turns as the scope had members at its call, and two.
 pub fn a_revoke_takes_at_most_its_scope_and_two()
     ensures among { (k : KernelState) (first : ℕ) (turns : List ℕ) (ec : ℕ) (r : Revocation) → IsKeptForest k → RevokeBegins k first ec r →
         Runs (after k first) ec r turns → (d : Derivation) → Contains (left r (run (after k first) turns)) d → Contains (left r k) d }
@@ -106,11 +107,10 @@ pub fn a_revoke_takes_at_most_its_scope_and_two()
         Runs (after k first) ec r turns → RevokeEnds (run (after k first) turns) last ec r → acts_in k ec (first ∷ turns ++ last ∷ []) ≤ length (left r k) + 2 }
 {}
 
-/// While an execution context runs a revoke, no turn makes a derivation that is busy for it: what joins
-/// is not. Where the next part of an item would make one that is, with a right and at places that its
-/// receiver doesn't hold, the part is skipped as busy. And where a call would make an object at a selector
-/// of the object range that its caller's domain revokes, and the other rules of the call hold, it is
-/// answered BUSY.
+/// While an execution context runs a revoke, no turn makes a derivation that is busy for it: what joins is not.
+/// Where the next part of an item would make one that is busy, with a right and at places that its receiver
+/// doesn't hold, the part is skipped as busy. And where a call would make an object at a selector of the object
+/// range that its caller's domain revokes, and the other rules of the call hold, it is answered BUSY.
 pub fn what_would_grow_a_running_revoke_is_refused()
     ensures joins { (k : KernelState) (cpu ec : ℕ) (r : Revocation) (x : Derivation) → IsForest k.delegations → revoke_of k ec ≡ Some r →
         Contains (after k cpu).delegations.list x → (Contains k.delegations.list x → ⊥) → busy r k.delegations.list x ≡ false }

@@ -1,4 +1,4 @@
--- What is decided of an item: only one that delegates gives, part by part, and the cursor goes right behind each.
+-- What is decided of an item: only an item that delegates gives, part by part, and the cursor goes right behind each.
 use Rattle.std.proofs.Common.{◌≡◌, ℕ, ◌+◌, ◌==◌, ◌%◌, ◌^◌, Bool, true, false, if◌then◌else◌, List, Option, Some, None, refl, ap, subst, arith}
 use Rattle.std.specs.Prelude.{Result, Ok, Err, max, option_map}
 use Rattle.std.proofs.lemmas.Bool.{eqb-true}

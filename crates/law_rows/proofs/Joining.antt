@@ -1,4 +1,4 @@
--- What becomes of the one who makes an object, whose table of execution contexts grows.
+-- What becomes of the context that makes an object, whose table of execution contexts grows.
 use Rattle.std.proofs.Common.{◌≡◌, ℕ, zero, suc, [], ◌∷◌, ◌++◌, Option, Some, None, refl}
 use Rattle.std.specs.Prelude.{IsSome}
 use Rattle.nova_model.specs.Deeds.{answered, done}
@@ -9,7 +9,7 @@ use Rattle.nova_model.specs.declared.deed.Deed.TheVariants.{Makes, Opens}
 use Rattle.nova_model.specs.declared.new_object.NewObject.{NewObject}
 use Rattle.nova_range.specs.declared.status.Status.TheVariants.{Success}
 
--- one that is there, with another in its place, where the table has one more
+-- a context that is there, with another in its place, where the table has one more
 set_more : (cs : Contexts) (ec : ℕ) (x : EcState) (more : Option EcState) → IsSome (ec_in cs ec) → ec_of (with_ec cs ec x ++ more ∷ []) ec ≡ x
 set_more [] ec x more there = let none : IsSome {T = EcState} None = there in absurd (cc)
 set_more (c ∷ cs) zero x more there = refl

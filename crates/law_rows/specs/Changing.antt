@@ -1,4 +1,4 @@
--- Deeds that no registers ask for, and whom they change.
+-- Deeds that no registers ask for, and the contexts that they change.
 use Rattle.std.specs.Prelude.{ℕ, Bool, true, false, Option, Some, None}
 use Rattle.nova_model.specs.declared.deed.Deed.{Deed}
 use Rattle.nova_model.specs.declared.deed.Deed.TheVariants.{Rests, Steps, Raises, Dies, Waits, Sends, Gives, Skips, Finishes, Aborts, Removes, Returns}
@@ -20,7 +20,7 @@ is_asked_for (Removes leaf) = false
 is_asked_for Returns = false
 is_asked_for other = true
 
--- the handler to which an exit is sent, and the caller to whom a reply completes after its last item
+-- the handler to which an exit is sent, and the caller to which a reply completes after its last item
 abbrev pub partner : Deed → Option ℕ
 partner (Sends handler ip identifier mtd reason q0 q1) = Some handler
 partner (Finishes item end words (Replied caller mark)) = Some caller

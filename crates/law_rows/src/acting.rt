@@ -12,8 +12,8 @@ pub fn edges_lead_to_handlers()
     ensures edge { (s : State) (handler : ℕ) → edge_of s ≡ Some handler → WaitsFor s handler }
 {}
 
-/// One that is parked, blocked or dead never acts; one that called acts where its handler is dead; one that helps, or has an exit for a
-/// handler, where it is dead or parked; and one without an edge acts in each other state.
+/// A context that is parked, blocked or dead never acts. A caller acts where its handler is dead; a context that helps, or has an exit for a handler,
+/// acts where the handler is dead or parked; and a context without an edge acts in each other state.
 pub fn states_that_act()
     ensures none { (sm : ℕ) (handler : Option State) → (acts_by Parked handler ≡ false) × (acts_by (Blocked sm) handler ≡ false) × (acts_by Dead handler ≡ false) }
     ensures calls { (h : ℕ) (handler : Option State) → acts_by (Calling h) handler ≡ true → handler ≡ Some Dead }
@@ -25,7 +25,7 @@ pub fn states_that_act()
     ensures others { (s : State) (handler : Option State) → edge_of s ≡ None → (acts_by s handler ≡ true) ⊎ ((s ≡ Parked) ⊎ ((s ≡ Dead) ⊎ ((sm : ℕ) × (s ≡ Blocked sm)))) }
 {}
 
-/// At one moment an alarm comes before a deadline, and of two of a kind the one of the lesser number.
+/// At one moment an alarm comes before a deadline, and of two of a kind that of the lesser number.
 pub fn who_goes_first_at_one_moment()
     ensures kinds { (alarm ec : ℕ) → (is_before (Alarm alarm) (Deadline ec) ≡ true) × (is_before (Deadline ec) (Alarm alarm) ≡ false) }
     ensures alarms { (a b : ℕ) → a < b → (is_before (Alarm a) (Alarm b) ≡ true) × (is_before (Alarm b) (Alarm a) ≡ false) }

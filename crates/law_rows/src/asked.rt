@@ -19,9 +19,9 @@ ghost use Rattle.nova_range.specs.declared.status.Status.{Status};
 ghost use Rattle.nova_range.specs.declared.status.Status.TheVariants.{BadPar};
 ghost use Rattle.nova_utcb.specs.Messages.{has_counts, has_items};
 
-/// What registers ask for is done: a revoke and a lookup always; a control where the selector names the object with the right, as the
-/// recall, the ticks, the identifier, the up, which wakes the first that waits, and the down, which waits at counter 0, to a deadline where one
-/// is asked for; and what they ask for that doesn't read is refused with its status.
+/// What registers ask for is done: a revoke and a lookup always; a control where the selector names the object with the right, as the recall, the
+/// ticks, the identifier, the up, which wakes the first that waits, and the down, which waits at counter 0, to a deadline where one is asked for.
+/// What they ask for that doesn't read is refused with its status.
 pub fn what_is_asked_for_is_done()
     ensures revoke { (k : KernelState) (ec domain : ℕ) (r : Registers) (range : Range) (own : Bool) → call_of r ≡ Ok (Revoke range own) → hypercall k ec domain r ≡ Revokes range own }
     ensures lookup { (k : KernelState) (ec domain : ℕ) (r : Registers) (range : Range) → call_of r ≡ Ok (Lookup range) →
@@ -48,9 +48,9 @@ pub fn what_is_asked_for_is_done()
     ensures unread { (k : KernelState) (ec domain : ℕ) (r : Registers) (status : Status) → call_of r ≡ Err status → hypercall k ec domain r ≡ Refuses (reg r 17) status }
 {}
 
-/// A call goes by the flag that its registers have: where its handler takes it, at the portal's instruction pointer, with its identifier,
-/// and with items where its message counts some; where the handler is busy it helps. A call and a reply whose message counts more words
-/// than there are, and a reply of who is no local thread or has no caller, are BAD_PAR.
+/// A call goes by the flag that its registers have. It is sent where its handler takes it, at the portal's instruction pointer, with its identifier,
+/// and with items where its message counts some; where the handler is busy it helps. A call and a reply whose message counts more words than there
+/// are, and a reply of a context that is no local thread or has no caller, are BAD_PAR.
 pub fn calls_and_replies_are_as_asked()
     ensures sent { (k : KernelState) (ec domain selector pt : ℕ) (r : Registers) (flag : Bool) → call_of r ≡ Ok (asks.Call selector flag) → has_counts (message k ec) ≡ true →
         named k domain is_pt call_right selector ≡ Ok pt → admitted k.contexts ec (handler_of k pt) flag ≡ Send →

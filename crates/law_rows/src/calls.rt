@@ -23,8 +23,8 @@ pub fn a_lookup_tells_what_covers()
         × (looked_up k domain range ≡ word_of (Some (range_of found, found.rights))) }
 {}
 
-/// An up of a semaphore at the greatest counter, 2^32 - 1, with nobody waiting is OVERFLOW, so that no counter comes to 2^32; and a down
-/// within no ticks at counter 0 is TIMEOUT.
+/// An up of a semaphore at the greatest counter, 2^32 - 1, with none waiting is OVERFLOW, so that no counter comes to 2^32. A down within no ticks at
+/// counter 0 is TIMEOUT.
 pub fn semaphores_refuse_so()
     ensures overflow { (k : KernelState) (ec domain selector sm : ℕ) → named k domain is_sm up_right selector ≡ Ok sm → (semaphore k.semaphores sm).waiting ≡ [] →
         (semaphore k.semaphores sm).count + 1 ≡ 2 ^ 32 → sm_ctrl k ec domain selector Up ≡ Err Overflow }
@@ -39,8 +39,8 @@ pub fn the_hotspot_is_above_its_flags()
     ensures { (hotspot low : ℕ) → low < 4096 → hotspot_in (hotspot * 4096 + low) ≡ hotspot }
 {}
 
-/// An item is skipped as Empty where its range or its window doesn't read or is null, and as Window where both read and one is of memory,
-/// the other of objects; else it isn't skipped as a whole.
+/// An item is skipped as Empty where its range or its window doesn't read or is null. It is skipped as Window where both read and one of both is of
+/// memory, the other of objects; else it isn't skipped as a whole.
 pub fn an_item_that_doesnt_read_is_skipped()
     ensures range { (word second window giver receiver : ℕ) → read_as (meaning_of word) ≡ None → job_of word second window giver receiver ≡ Err Empty }
     ensures window { (word second window giver receiver : ℕ) → read_as (meaning_of window) ≡ None → job_of word second window giver receiver ≡ Err Empty }

@@ -17,9 +17,9 @@ ghost use Rattle.nova_range.specs.declared.status.Status.{Status};
 ghost use Rattle.nova_range.specs.declared.status.Status.TheVariants.{Success};
 ghost use Rattle.law_rows.specs.Size.{size};
 
-/// The state after a deed: a portal that is named has the number as its identifier; one that is recalled has its flag; one that waits to a
-/// deadline has it; an instruction leaves its registers, whoever executes it; who gave a first range is answered SUCCESS; a handler that
-/// took the items of its call goes on with its registers; and one whose reply has ended is parked.
+/// The state after a deed: a portal that is named has the number as its identifier; a context that is recalled has its flag; a context that waits to
+/// a deadline has it; an instruction leaves its registers, whichever context executes it; a context that gave a first range is answered SUCCESS; a
+/// handler that took the items of its call goes on with its registers; and a handler whose reply has ended is parked.
 pub fn deeds_leave_this()
     ensures named { (k : KernelState) (ec pt number : ℕ) → pt < length k.identifiers → identifier (done k ec (Names pt number)) pt ≡ number }
     ensures recalled { (k : KernelState) (ec whose : ℕ) → IsSome (context_at k whose) → (context (done k ec (Recalls whose)) whose).recall ≡ true }

@@ -8,8 +8,8 @@ ghost use Rattle.nova_objects.specs.declared.object.EcKind.TheVariants.{Global};
 ghost use Rattle.nova_objects.specs.declared.object.Object.TheVariants.{Pd, Ec, Sc};
 ghost use Rattle.law_rows.specs.Examples.{cap, family, gone, helping, helping_leaves, helping_shows, left, revoke_of_all, shown, watching, watching_leaves, watching_shows};
 
-/// What a kernel begins with: the root's domain, its thread, which is ready on processor 0 and has event base 16, and its scheduling
-/// context; and the root's capabilities, where there are 8 frames and two consoles.
+/// A kernel begins with the root's objects and capabilities. These are the root's domain, its thread, which is ready on processor 0 and has event
+/// base 16, and its scheduling context; and the root's capabilities, where there are 8 frames and two consoles.
 pub fn the_root_begins_so()
     ensures objects { (cpus ram consoles : ℕ) (root : Root) → (bare cpus ram consoles root).objects ≡ Pd ∷ Ec 0 0 Global 16 ∷ Sc 1 0 root.priority root.quantum ∷ [] }
     ensures thread { (cpus ram consoles : ℕ) (root : Root) → ((context (bare cpus ram consoles root) 1).state ≡ Ready)

@@ -22,7 +22,7 @@ pub fn a_copy_has_the_counted_words()
     ensures behind { (from to : List ℕ) (i : ℕ) → 4 + word from 0 % 2 ^ 16 ≤ i → word (copied from to) i ≡ word to i }
 {}
 
-/// An exit's message tells the groups that the descriptor names, and no other: 36 in word 0; the descriptor in word 4; both qualifications in
+/// An exit's message tells the groups that the descriptor names, and no other. It has 36 in word 0; the descriptor in word 4; both qualifications in
 /// words 5 and 6; pc in word 7; 0 in word 8; and register i in word 8 + i. The words of a group that isn't named are 0.
 pub fn an_exit_tells_the_groups_of_its_descriptor()
     ensures head { (mtd : Mtd) (q0 q1 : ℕ) (r : Registers) (m : List ℕ) → IsMessage m →

@@ -14,8 +14,8 @@ ghost use Rattle.nova_range.specs.declared.range.Kind.TheVariants.{Obj};
 
 use nova_range::{Rights, Target};
 
-/// Rights to objects are the same bits in the model as in code, and who makes an object has all rights to it: one bit to a domain and to a
-/// scheduling context, three to an execution context and to a portal, two to a semaphore.
+/// Rights to objects are the same bits in the model as in code, and the maker of an object has all rights to it. There is one bit to a domain and to
+/// a scheduling context, three to an execution context and to a portal, two to a semaphore.
 pub fn rights_are_these_bits()
     ensures pd { AreRightsTo Target.Pd (Rights.CREATE ∷ []) (create_right ∷ []) }
     ensures ec { AreRightsTo Target.Ec (Rights.CONTROL ∷ Rights.BIND_SC ∷ Rights.BIND_PT ∷ []) (control_right ∷ bind_scheduling_right ∷ bind_portal_right ∷ []) }
@@ -50,7 +50,7 @@ pub fn a_source_is_a_semaphore_of_the_roots()
     } ∷ [] }
 {}
 
-/// Who makes an object holds it at the selector that it asked for, without a parent and with all rights to it.
+/// The maker of an object holds it at the selector that it asked for, without a parent and with all rights to it.
 pub fn a_maker_holds_what_it_made_where_it_asked()
     ensures made { (k : KernelState) (ec call target : ℕ) (made : NewObject) → (done k ec (Makes call target made)).delegations.list ≡ k.delegations.list ++ record {
       id = k.delegations.next;

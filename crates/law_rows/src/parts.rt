@@ -26,7 +26,7 @@ pub fn only_delegations_give()
         HasBit k ec 0 }
 {}
 
-/// A part is skipped for the first reason that holds: its child would have no right; then, its receiver holds a place of it; then, it is
+/// A part is skipped for the first reason that holds. These are: its child would have no right; then, its receiver holds a place of it; then, it is
 /// busy for a revoke that runs. Where none holds it is made.
 pub fn a_part_is_skipped_for_the_first_reason()
     ensures rights { (busy : Derivation → Bool) (list : List Derivation) (x : Derivation) → x.rights.0 ≡ 0 → judged busy list x ≡ Err reason.Rights }

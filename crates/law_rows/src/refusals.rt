@@ -16,10 +16,10 @@ ghost use Rattle.nova_range.specs.declared.rights.Rights.{Rights};
 ghost use Rattle.nova_range.specs.declared.status.Status.{Status};
 ghost use Rattle.nova_range.specs.declared.status.Status.TheVariants.{BadCap, BadCpu, Busy};
 
-/// Which refusal is answered to who makes an object, the first that holds: BAD_CAP where the selector of the domain names none with create;
-/// BAD_CAP where the target is held; then of an execution context BAD_CPU where there is no such processor, of a scheduling context BAD_CAP
-/// where its execution context isn't named with the right, or has one, of a portal BAD_CAP where its handler isn't; and last BUSY where the
-/// target is being revoked.
+/// A maker of an object is answered the first refusal that holds. These are BAD_CAP where the selector of the domain names none with create; BAD_CAP
+/// where the target is held; then of an execution context BAD_CPU where there is no such processor, of a scheduling context BAD_CAP where its
+/// execution context isn't named with the right, or has one, of a portal BAD_CAP where its handler isn't; and last BUSY where the target is being
+/// revoked.
 pub fn makers_are_refused_in_this_order()
     ensures names { (k : KernelState) (domain selector right : ℕ) (is : Object → Bool) (status : Status) → named k domain is right selector ≡ Err status → status ≡ BadCap }
     ensures domain { (k : KernelState) (domain target pd : ℕ) (status : Status) → named k domain is_pd create_right pd ≡ Err status → maker k domain target pd ≡ Err BadCap }
@@ -54,8 +54,8 @@ pub fn refusals_are_of_rows()
         (call ≡ reg (context k ec).regs 17) × (asked k ec (pd_of k ec) (context k ec).regs ≡ Err status) }
 {}
 
-/// A call or a control whose selector names no such object with the right to it is BAD_CAP; a call is so where its message counts no more
-/// words than there are.
+/// A call or a control whose selector names no such object with the right to it is BAD_CAP. A call is so where its message counts no more words than
+/// there are.
 pub fn without_a_capability_is_bad_cap()
     ensures call { (k : KernelState) (ec domain selector : ℕ) (flag : Bool) (status : Status) → has_counts (message k ec) ≡ true →
         named k domain is_pt call_right selector ≡ Err status → row k ec domain (Call selector flag) ≡ Err BadCap }

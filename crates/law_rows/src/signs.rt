@@ -8,8 +8,8 @@ ghost use Rattle.nova_model.specs.declared.transfer.Reason.TheVariants as reason
 ghost use Rattle.nova_model.specs.declared.transfer.Sequel.{Sequel};
 ghost use Rattle.nova_model.specs.declared.transfer.Skip.TheVariants as skip;
 
-/// The numbers of some events: one that helps tells the handler, with 0 for a call and 1 for an exit; an item that is skipped as a whole
-/// tells 1 for Empty or 2 for Window, and then the item; a part tells 3 for rights, 4 for what is taken or 5 for busy, and then the place.
+/// The numbers of some events: a deed that helps tells the handler, with 0 for a call and 1 for an exit; an item that is skipped as a whole tells 1
+/// for Empty or 2 for Window, and then the item; a part tells 3 for rights, 4 for what is taken or 5 for busy, and then the place.
 pub fn events_tell_these_numbers()
     ensures helps { (handler reason q0 q1 : ℕ) → (sign_of (Helps handler) ≡ (Help, handler, 0)) × (sign_of (Waits handler reason q0 q1) ≡ (Help, handler, 1)) }
     ensures items { (item : ℕ) (words : Option ItemWords) (after : Sequel) → (sign_of (Finishes item (Skipped skip.Empty) words after) ≡ (Skip, 1, item))

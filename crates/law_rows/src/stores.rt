@@ -11,8 +11,8 @@ ghost use Rattle.nova_range.specs.Rights.{write_right};
 
 use nova_frames::laws::loads_give_what_was_stored;
 
-/// An instruction's store to a frame of RAM, whoever executes it: what is loaded there then is the stored value's lowest bytes. One to a
-/// console enters its low byte at the log's end, at the console's first address alone.
+/// An instruction's store to a frame of RAM, whichever context executes it: what is loaded there then is the stored value's lowest bytes. A store to
+/// a console enters its low byte at the log's end, at the console's first address alone.
 pub fn stores_are_done()
     ensures ram { (k : KernelState) (ec frame : ℕ) (regs : Registers) (s : Store) → instruction k ec ≡ Went regs (Some s) →
         frame_for (address_space k ec) write_right s.address ≡ Some frame → AreWhole k.memory.ram → frame < length k.memory.ram → s.address % 4096 + s.width ≤ 4096 →

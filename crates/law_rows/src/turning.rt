@@ -20,10 +20,10 @@ ghost use Rattle.nova_range.specs.declared.range.Range.{Range};
 ghost use Rattle.nova_range.specs.declared.status.Status.TheVariants.{Success};
 ghost use Rattle.law_rows.specs.Changing.{is_asked_for, partner};
 
-/// What an execution context does next, by its state. Before its startup exit it raises that. Ready, it raises a recall's exit where one is
-/// asked for; else it goes on with its instruction, or raises the exit that this raises; a thread's ECALL makes the hypercall of its
-/// registers. One that helps makes its call again. One that waits for a handler is aborted, by the mark with which the handler keeps it.
-/// One that revokes takes the next leaf, and returns where there is none.
+/// What an execution context does next, by its state. Before its startup exit it raises that. Ready, it raises a recall's exit where one is asked
+/// for; else it goes on with its instruction, or raises the exit that this raises; a thread's ECALL makes the hypercall of its registers. A helper
+/// makes its call again. A caller that waits for a handler is aborted, by the mark with which the handler keeps it. A revoker takes the next leaf,
+/// and returns where there is none.
 pub fn each_state_has_its_deed()
     ensures startup { (k : KernelState) (ec : ℕ) → (context k ec).state ≡ Fresh → deed k ec ≡ Raises 0 0 0 }
     ensures recalled { (k : KernelState) (ec : ℕ) → (context k ec).state ≡ Ready → (context k ec).recall ≡ true → deed k ec ≡ Raises 8 0 0 }
@@ -44,10 +44,9 @@ pub fn each_state_has_its_deed()
         next_leaf (record { pd = pd_of k ec; range = range; own = own }) k.delegations ≡ None → deed k ec ≡ Returns }
 {}
 
-/// What a deed leaves of the execution context that does it. A call that ends is answered SUCCESS, with the number that it is told. One
-/// that opens a domain gives its first range, a reply with items gives these, and one that revokes or waits does so. An exit that is raised
-/// leaves the registers, and a recall is answered by its exit alone. A part and a leaf leave it as it was, and the next item begins from
-/// its first place on.
+/// What a deed leaves of the execution context that does it. A call that ends is answered SUCCESS, with the number that it is told. A call that opens
+/// a domain gives its first range, a reply with items gives these, and a call that revokes or waits does so. An exit that is raised leaves the
+/// registers, and a recall is answered by its exit alone. A part and a leaf leave it as it was, and the next item begins from its first place on.
 pub fn a_deed_leaves_its_actor_so()
     ensures told { (k : KernelState) (ec call value : ℕ) → IsSome (context_at k ec) → context (done k ec (Tells call value)) ec ≡ answered (context k ec) Success (Some value) }
     ensures named { (k : KernelState) (ec pt number : ℕ) → IsSome (context_at k ec) → context (done k ec (Names pt number)) ec ≡ answered (context k ec) Success None }
@@ -75,9 +74,9 @@ pub fn a_deed_leaves_its_actor_so()
         transfer (done k ec (Finishes item end words Item)) ec ≡ record { item = item + 1; cursor = 0; children = 0 } }
 {}
 
-/// Whatever registers have, only what they ask for by a hypercall changes semaphores, identifiers, deadlines and objects, and only a
-/// hypercall, the sending of an exit and a reply that completes change another execution context: no instruction does, no exit that is
-/// raised, no part of an item and no leaf.
+/// Whatever registers have, only what they ask for by a hypercall changes semaphores, identifiers, deadlines and objects. Only a hypercall, the
+/// sending of an exit and a reply that completes change another execution context: no instruction does, no exit that is raised, no part of an item
+/// and no leaf.
 pub fn only_what_is_asked_for_changes_others()
     ensures semaphores { (k : KernelState) (ec : ℕ) (d : Deed) → is_asked_for d ≡ false → (done k ec d).semaphores ≡ k.semaphores }
     ensures identifiers { (k : KernelState) (ec : ℕ) (d : Deed) → is_asked_for d ≡ false → (done k ec d).identifiers ≡ k.identifiers }

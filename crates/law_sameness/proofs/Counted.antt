@@ -92,7 +92,7 @@ grows k (Some (new.Sc ec cpu priority quantum)) =
     (sym (stamps_joined k.budgets (budget_of k.next_stamp (new.Sc ec cpu priority quantum))))
 grows k (Some other) = ap (λ (l : List (Option ℕ)). made_counts k.times.clocks l k.next_stamp (k.delegations.next + 1)) (sym (stamps_joined k.budgets None))
 
--- WHO PAYS
+-- WHAT PAYS
 
 pays : (clocks : List ℕ) (bs : List (Option Budget)) (next id sc quantum : ℕ) (b : Budget) (is : Bool) → entry (slice_get bs sc) ≡ Some b →
     renewed (made_counts clocks (map stamp_in bs) next id) sc is

@@ -28,8 +28,8 @@ pub fn x0_is_always_zero()
     ensures turns { (k : KernelState) (cpu : ℕ) → AreZero k → AreZero (after k cpu) }
 {}
 
-/// Two states in which tables go with objects, and both counts of each processor's turns are the same, and in which nothing is to come, are the
-/// same state where all that calls of a kernel read is the same, and what is counted beside it.
+/// Two states in which tables go with objects, both counts of each processor's turns are the same, and nothing is to come are the same where all that
+/// calls of a kernel read, and what is counted beside it, is the same.
 pub fn states_that_are_read_and_counted_alike_are_the_same()
     ensures { (a b : KernelState)
         → IsKept a → IsKept b

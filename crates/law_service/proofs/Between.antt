@@ -28,7 +28,7 @@ use Rattle.law_flow.specs.Flow.{AreAtWorkTimeless, own_turn}
 use Rattle.law_flow.proofs.Looking.{no}
 use Rattle.law_service.specs.Examples.{tenant_domain, tenant_objects}
 use Rattle.law_service.specs.Service.{AreAdmitted, ByComputing, ByGift, ByStranger, Enters, IsStrange, IsStranger, Own, course, entry_in, returned}
-use Rattle.law_service.proofs.Meeting.{first, first_works, none_own, none_works, objects_there, own_first, own_second, own_works, range_there, ranges_there, reply, second, second_works, third, walled_by}
+use Rattle.law_service.proofs.Meeting.{first, first_within, first_works, none_own, none_within, none_works, objects_there, own_first, own_second, own_works, range_there, ranges_there, reply, second, second_within, second_works, third, walled_by}
 
 abbrev beyond : KernelState
 beyond = after third 1
@@ -143,13 +143,19 @@ stranger = record {
 pub admitted_between : AreAdmitted tenant_domain tenant_objects first (0 ∷ 0 ∷ 1 ∷ 0 ∷ 0 ∷ [])
 admitted_between = (
   λ none. none_own first own_first none,
+  first_within,
   (
     λ none. none_own second own_second none,
-    (λ none. ByStranger 11 acts_other stranger, (λ none. ByComputing 4 acts_beyond steps_beyond (walled_by beyond 4 ranges_beyond), (λ none. ByGift reply enters_later refl, tt))),
+    second_within,
+    (
+      λ none. ByStranger 11 acts_other stranger,
+      none_within third 1 own_none,
+      (λ none. ByComputing 4 acts_beyond steps_beyond (walled_by beyond 4 ranges_beyond), none_within beyond 0 own_beyond, (λ none. ByGift reply enters_later refl, none_within later 0 own_later, tt)),
+    ),
   ),
 )
 
-pub works_between : AreAtWorkTimeless tenant_domain first (0 ∷ 0 ∷ 1 ∷ 0 ∷ 0 ∷ [])
+pub works_between : AreAtWorkTimeless false tenant_domain first (0 ∷ 0 ∷ 1 ∷ 0 ∷ 0 ∷ [])
 works_between = (
   own_works first own_first first_works,
   (own_works second own_second second_works, (none_works third 1 own_none, (none_works beyond 0 own_beyond, (none_works later 0 own_later, tt)))),

@@ -55,7 +55,7 @@ front_stays cs ec x n is = elim (place n ec) [
   | inr other ↦ get_other (fronts cs) ec n (Some (front_of x)) other
 ]
 
--- ONE WHO COMPUTES
+-- A CONTEXT THAT COMPUTES
 
 module _ (k : KernelState) (S P : ℕ → Bool) (ec : ℕ) (there : ec_in k.contexts ec ≡ Some (ec_of k.contexts ec)) (foreign : S (pd_of k ec) ≡ true → ⊥)
     (walled : (pd page : ℕ) (to : Page) → S pd ≡ true → reach k.delegations.list pd page ≡ Some to → Reach k (λ n. n ≡ pd_of k ec) write_right to.frame → ⊥) where
@@ -125,6 +125,7 @@ module _ (k : KernelState) (S P : ℕ → Bool) (ec : ℕ) (there : ec_in k.cont
       ticks = λ n p. paid_so k P cpu ec sc None actor n p Steps refl stirs ∙ ap (λ (o : Option ℕ). ticks_at (entered k (record { gift = None; actor = actor; payer = o })) n) pays;
       deadlines = λ n p. refl;
       spaces = λ kind pd place s. refl;
+      origins = λ kind pd place from s t. refl;
       frames = λ pd page to s leads. frames_step (store_of (instruction k ec)) pd page to s leads;
       size = size_step (store_of (instruction k ec));
     }
@@ -148,6 +149,7 @@ nothing_entered k new S P actor a = record {
   ticks = a.ticks;
   deadlines = a.deadlines;
   spaces = a.spaces;
+  origins = a.origins;
   frames = a.frames;
   size = a.size;
 }

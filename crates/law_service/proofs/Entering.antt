@@ -33,6 +33,7 @@ entered_alike k l S P e a = record {
   ticks = paid e.payer;
   deadlines = deadlines_same P k.times.deadlines l.times.deadlines (gift_deadline e.gift) a.deadlines;
   spaces = a.spaces;
+  origins = a.origins;
   frames = a.frames;
   size = a.size;
 }

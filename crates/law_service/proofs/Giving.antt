@@ -36,7 +36,7 @@ use Rattle.law_isolation.specs.Sound.{IsSound}
 use Rattle.law_origins.proofs.Warrants.{Warrant, deed_warrant}
 use Rattle.law_integrity.specs.Confined.{Of}
 use Rattle.law_integrity.proofs.Entries.{change_each}
-use Rattle.law_flow.specs.Flow.{AreAlike, Front, IsSide, front_of, fronts, held_by, ticks_at}
+use Rattle.law_flow.specs.Flow.{AreAlike, Front, IsSide, front_of, fronts, held_by, origin_of, ticks_at}
 use Rattle.law_flow.proofs.Doing.{Shown, by_deed, paid_other, ticks_in}
 use Rattle.law_flow.proofs.Keeping.{AllOwn, AreWell, QueueOwn, all_well, raised_own}
 use Rattle.law_flow.proofs.Tables.{AreSame, edits_alike, fronts_alike, fronts_set, unjoined}
@@ -58,7 +58,7 @@ unseen_front P cs ec x never n p =
 pub not_of : (P : ℕ → Bool) (n : ℕ) → P n ≡ false → P n ≡ true → ⊥
 not_of P n none some = let both : false ≡ true = sym none ∙ some in cc
 
--- WHO GIVES GOES ON
+-- A CONTEXT THAT GIVES GOES ON
 
 record SameEdits (k : KernelState) (S P : ℕ → Type 0) (es fs : Edits) : Type 0 where
   contexts : AreSame (Shown k S P) (all_edited k.contexts es) (all_edited k.contexts fs)
@@ -76,7 +76,7 @@ goes_so k S P ec es = by_test (P ec) refl
           fronts = fronts_alike (Of P) k.contexts (edit_at k.contexts ec (Answers Success None)) es (unseen_front (Of P) k.contexts ec x (not_of P ec is));
         }
 
--- WHO IS RECALLED IS THERE
+-- A CONTEXT THAT IS RECALLED IS THERE
 
 tagged : (n : ℕ) (o : Option (Option EcState)) (p : Option Object) → option_map tag o ≡ option_map (tag_of n) p → option_map is_ec p ≡ Some true → is_some (entry o) ≡ true
 tagged n (Some (Some x)) p same is = refl
@@ -208,6 +208,7 @@ module _ (k : KernelState) (S P : ℕ → Bool) (cpu ec sc : ℕ) (d : Deed) (st
     deadlines = λ n p. ap (λ (l : List (Option Deadline)). slice_get l n)
         (unjoined (deadlines_with k.times.deadlines (deadline_by ec d)) no_deadline (made_by d) its.made ∙ ap (deadlines_with k.times.deadlines) its.deadline);
     spaces = λ kind pd page s. ap (λ (o : Option Branch). option_map held_by (find (covers kind pd page) (branched k.delegations o).list)) its.branch;
+    origins = λ kind pd page from s t. ap (λ (o : Option Branch). origin_of (branched k.delegations o).list from (find (covers kind pd page) (branched k.delegations o).list)) its.branch;
     frames = λ pd page to s leads. ap (λ (o : Option (AddressSpace × Store)). slice_get (memory_with k.memory o).ram to.frame) its.store;
     size = ap (λ (o : Option (AddressSpace × Store)). length (memory_with k.memory o).ram) its.store;
   }

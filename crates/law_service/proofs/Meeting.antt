@@ -14,7 +14,7 @@ use Rattle.nova_range.specs.declared.range.Kind.TheVariants.{Mem, Obj}
 use Rattle.nova_model.specs.Boot.{boot}
 use Rattle.nova_model.specs.Choice.{choice, next_to_act}
 use Rattle.nova_model.specs.Deeds.{deed}
-use Rattle.nova_model.specs.Edges.{caller_in, state_in}
+use Rattle.nova_model.specs.Edges.{caller_in, is_giving, state_in}
 use Rattle.nova_model.specs.Inputs.{input_of}
 use Rattle.nova_model.specs.Runs.{after, run}
 use Rattle.nova_model.specs.Semaphores.{has, semaphore_in, waits}
@@ -31,7 +31,7 @@ use Rattle.law_forest.proofs.Members.{IsIn, all_at, in_from_contains}
 use Rattle.law_origins.specs.Giving.{Acts}
 use Rattle.law_integrity.specs.Confined.{Of}
 use Rattle.law_integrity.specs.Rights.{Again, AtCall, IsAsking}
-use Rattle.law_flow.specs.Flow.{AreAtWorkTimeless, IsAtWork, IsSide, is_at_work, own_turn}
+use Rattle.law_flow.specs.Flow.{AreAtWorkTimeless, GivesWithin, IsAtWork, IsSide, RevokesNothing, is_at_work, is_revoking, own_turn}
 use Rattle.law_flow.proofs.Looking.{AllAt, IsCalm, at_all, calm_edge, calm_wait, entry_at, led, looked_up, no}
 use Rattle.law_turns.specs.Links.{caller_at as caller_of, state_at as state_of}
 use Rattle.law_service.specs.Examples.{served_tenants, tenant_domain, tenant_objects}
@@ -196,31 +196,34 @@ side = record {
 
 -- AT WORK
 
-works_as : (k : KernelState) (s : State) → (context k 10).state ≡ s → is_at_work s ≡ true → ((handler : ℕ) → s ≡ Helping handler → ⊥) → is_thread k 10 ≡ false → IsAtWork ⊥ k 10
-works_as k s is working never none = record {
+works_as : (k : KernelState) (s : State) → (context k 10).state ≡ s → is_at_work s ≡ true → is_giving s ≡ false → is_revoking s ≡ false → ((handler : ℕ) → s ≡ Helping handler → ⊥) → is_thread k 10 ≡ false →
+    IsAtWork ⊥ (RevokesNothing k (Of tenant_domain)) (false ≡ true) k 10
+works_as k s is working calm unrevoking never none = record {
   state = ap is_at_work is ∙ working;
   calls = λ asks. absurd (by_asks asks);
+  gives = λ h. absurd (let both : false ≡ true = sym (ap is_giving is ∙ calm) ∙ h in cc);
+  revokes = λ h. sym (ap is_revoking is ∙ unrevoking) ∙ h;
 }
   where
     by_asks : IsAsking k 10 → ⊥
     by_asks (Again handler at) = never handler (sym is ∙ at)
     by_asks (AtCall c) = let both : false ≡ true = sym none ∙ c.thread in cc
 
-pub first_works : IsAtWork ⊥ first 10
-first_works = works_as first Fresh fresh_state refl (λ handler is. cc) no_thread
+pub first_works : IsAtWork ⊥ (RevokesNothing first (Of tenant_domain)) (false ≡ true) first 10
+first_works = works_as first Fresh fresh_state refl refl refl (λ handler is. cc) no_thread
 
-pub second_works : IsAtWork ⊥ second 10
-second_works = works_as second (Exiting 0 0 0) exit_state refl (λ handler is. cc) still_no_thread
+pub second_works : IsAtWork ⊥ (RevokesNothing second (Of tenant_domain)) (false ≡ true) second 10
+second_works = works_as second (Exiting 0 0 0) exit_state refl refl refl (λ handler is. cc) still_no_thread
 
-pub own_works : (k : KernelState) → own_turn tenant_domain k 0 ≡ Some (10, 12) → IsAtWork ⊥ k 10 → (ec sc : ℕ) → own_turn tenant_domain k 0 ≡ Some (ec, sc) → IsAtWork ⊥ k ec
+pub own_works : (k : KernelState) → own_turn tenant_domain k 0 ≡ Some (10, 12) → IsAtWork ⊥ (RevokesNothing k (Of tenant_domain)) (false ≡ true) k 10 → (ec sc : ℕ) → own_turn tenant_domain k 0 ≡ Some (ec, sc) → IsAtWork ⊥ (RevokesNothing k (Of tenant_domain)) (false ≡ true) k ec
 own_works k own works ec sc is =
     let same : ◌≡◌ {A = ℕ × ℕ} (10, 12) (ec, sc) = same_Some {A = ℕ × ℕ} (10, 12) (ec, sc) (sym own ∙ is) in
-    subst (IsAtWork ⊥ k) (ap (λ (p : ℕ × ℕ). p.0) same) works
+    subst (IsAtWork ⊥ (RevokesNothing k (Of tenant_domain)) (false ≡ true) k) (ap (λ (p : ℕ × ℕ). p.0) same) works
 
-pub none_works : (k : KernelState) (cpu : ℕ) → own_turn tenant_domain k cpu ≡ None → (ec sc : ℕ) → own_turn tenant_domain k cpu ≡ Some (ec, sc) → IsAtWork ⊥ k ec
+pub none_works : (k : KernelState) (cpu : ℕ) → own_turn tenant_domain k cpu ≡ None → (ec sc : ℕ) → own_turn tenant_domain k cpu ≡ Some (ec, sc) → IsAtWork ⊥ (RevokesNothing k (Of tenant_domain)) (false ≡ true) k ec
 none_works k cpu none ec sc is = absurd (let both : ◌≡◌ {A = Option (ℕ × ℕ)} None (Some (ec, sc)) = sym none ∙ is in cc)
 
-pub works : AreAtWorkTimeless tenant_domain first (replicate 4 0)
+pub works : AreAtWorkTimeless false tenant_domain first (replicate 4 0)
 works = (own_works first own_first first_works, (own_works second own_second second_works, (none_works third 0 own_third, (none_works fourth 0 own_fourth, tt))))
 
 -- ADMITTED
@@ -236,8 +239,28 @@ walled_by k ec same pd page to s leads reaches =
 pub none_own : {A : Type 0} (k : KernelState) → own_turn tenant_domain k 0 ≡ Some (10, 12) → own_turn tenant_domain k 0 ≡ None → A
 none_own k own none = absurd (let both : ◌≡◌ {A = Option (ℕ × ℕ)} None (Some (10, 12)) = sym none ∙ own in cc)
 
+within_as : (k : KernelState) (s : State) → (context k 10).state ≡ s → is_giving s ≡ false → own_turn tenant_domain k 0 ≡ Some (10, 12) → GivesWithin tenant_domain k 0
+within_as k s is calm own ec sc at h =
+    let same : ◌≡◌ {A = ℕ × ℕ} (10, 12) (ec, sc) = same_Some {A = ℕ × ℕ} (10, 12) (ec, sc) (sym own ∙ at) in
+    let both : false ≡ true = sym (ap is_giving is ∙ calm) ∙ ap (λ (p : ℕ × ℕ). is_giving (context k p.0).state) same ∙ h in
+    absurd (cc)
+
+pub first_within : GivesWithin tenant_domain first 0
+first_within = within_as first Fresh fresh_state refl own_first
+
+pub second_within : GivesWithin tenant_domain second 0
+second_within = within_as second (Exiting 0 0 0) exit_state refl own_second
+
+pub none_within : (k : KernelState) (cpu : ℕ) → own_turn tenant_domain k cpu ≡ None → GivesWithin tenant_domain k cpu
+none_within k cpu none ec sc is = absurd (let both : ◌≡◌ {A = Option (ℕ × ℕ)} None (Some (ec, sc)) = sym none ∙ is in cc)
+
 pub admitted : AreAdmitted tenant_domain tenant_objects first (replicate 4 0)
 admitted = (
   λ none. none_own first own_first none,
-  (λ none. none_own second own_second none, (λ none. ByComputing 4 third_acts third_steps (walled_by third 4 later_ranges_are), (λ none. ByGift reply fourth_enters refl, tt))),
+  first_within,
+  (
+    λ none. none_own second own_second none,
+    second_within,
+    (λ none. ByComputing 4 third_acts third_steps (walled_by third 4 later_ranges_are), none_within third 0 own_third, (λ none. ByGift reply fourth_enters refl, none_within fourth 0 own_fourth, tt)),
+  ),
 )

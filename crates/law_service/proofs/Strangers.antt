@@ -38,8 +38,11 @@ use Rattle.law_integrity.specs.Integrity.{Called, Clears, ContextBy, Controls, C
 use Rattle.law_integrity.specs.Rights.{CallsAt, ExitsAt, GivesFirst, GivesTo, HasTurn, Names, RepliesWith, TakesOfCaller}
 use Rattle.law_integrity.proofs.Authorised.{authorised_by, has_turn}
 use Rattle.law_integrity.proofs.Confining.{Child, Newest, Old, Whence, acts_one, whence}
+use Rattle.law_forest.proofs.Changes.{reached_change}
+use Rattle.law_flow.proofs.Origins.{origins_left}
 use Rattle.law_flow.specs.Flow.{AreAlike, IsLeftAlone, IsSide, held_by}
-use Rattle.law_flow.proofs.Leaving.{find_less, of_another, raw, some_there, table_same}
+use Rattle.law_flow.proofs.Leaving.{of_another, raw, some_there, table_same}
+use Rattle.law_flow.proofs.Sets.{find_less}
 use Rattle.law_flow.proofs.Others.{first_waits, side_left, state_of_entry}
 use Rattle.law_flow.proofs.Seeing.{fronts_same}
 use Rattle.law_turns.proofs.Suited.{there_at as some_entry}
@@ -228,6 +231,7 @@ module _ (s : Scenario) (before : List ℕ) (S P : ℕ → Bool) (cpu ec : ℕ) 
     ticks = λ n p. ap (λ (o : Option (Option Budget)). option_map (λ (b : Budget). b.ticks) (entry o)) (budget_entry n p);
     deadlines = deadline_entry;
     spaces = λ kind pd page its. ap (option_map held_by) (space_so kind pd page its by.2.grows);
+    origins = λ kind pd page from its theirs. origins_left k.delegations new.delegations sound.forest (reached_change s before cpu) kind pd page from (space_so kind pd page its by.2.grows);
     frames = λ pd page to its leads. frame_so pd page to its leads (by.2.frames to.frame);
     size = turn_frames k cpu;
   }

@@ -29,7 +29,7 @@ use Rattle.law_forest.specs.Turns.{budgets_charged}
 use Rattle.law_origins.specs.Giving.{Acts}
 use Rattle.law_integrity.specs.Confined.{Of, Reach}
 use Rattle.law_integrity.specs.Rights.{ServesCaller}
-use Rattle.law_flow.specs.Flow.{AreAlike, IsLeftAlone, IsSide, IsTimeless, own_turn}
+use Rattle.law_flow.specs.Flow.{AreAlike, GivesWithin, IsLeftAlone, IsSide, IsTimeless, own_turn}
 
 -- WHAT ENTERS
 
@@ -165,14 +165,14 @@ pub record IsStranger (k : KernelState) (S P : ℕ → Type 0) (cpu ec : ℕ) : 
 
 -- ALONG TURNS
 
--- a turn that is none of the side's leaves the part alone, where nothing enters, and else comes to no more than what enters; so each of these turns
+-- a turn that is none of the side's leaves the part alone, where nothing enters, and else comes to no more than what enters; so each of these turns, and where the side gives items, it does so within
 abbrev pub IsServedBy : KernelState → (ℕ → Type 0) → (ℕ → Type 0) → ℕ → Option Entry → Type 0
 IsServedBy k S P cpu None = IsLeftAlone k S P cpu
 IsServedBy k S P cpu (Some e) = IsEntered k S P cpu e
 
 abbrev pub AreServed : (ℕ → Bool) → (ℕ → Bool) → KernelState → List ℕ → Type 0
 AreServed S P k [] = Unit {0}
-AreServed S P k (cpu ∷ turns) = (own_turn S k cpu ≡ None → IsServedBy k (Of S) (Of P) cpu (entry_in P k cpu)) × AreServed S P (after k cpu) turns
+AreServed S P k (cpu ∷ turns) = (own_turn S k cpu ≡ None → IsServedBy k (Of S) (Of P) cpu (entry_in P k cpu)) × GivesWithin S k cpu × AreServed S P (after k cpu) turns
 
 -- what happens to the part: a turn of the side's, by who acts and who pays, or an entry; and along turns, in order
 pub data Happening : Type 0 where
@@ -191,7 +191,7 @@ course S P k (cpu ∷ turns) = in_front (happening_of (own_turn S k cpu) (entry_
 -- WHAT CAN BE CHECKED OF EACH TURN
 
 -- Why a turn that is none of the side's leaves the part alone, or comes to no more than its entry: a stranger acts; one gives; one computes, and writes to no frame that the side sees; or nobody acts, no alarm rings at the
--- part's semaphores, and none of the part has a deadline. So of each of these turns that is none of the side's.
+-- part's semaphores, and none of the part has a deadline. So of each of these turns that is none of the side's, and where the side gives items, it does so within.
 pub data IsAdmitted (k : KernelState) (S P : ℕ → Bool) (cpu : ℕ) : Type 0 where
   ByStranger : (ec : ℕ) → Acts k cpu ec → IsStranger k (Of S) (Of P) cpu ec → IsAdmitted k S P cpu
   ByGift : (e : Entry) → entry_in P k cpu ≡ Some e → IsSome e.gift → IsAdmitted k S P cpu
@@ -200,4 +200,4 @@ pub data IsAdmitted (k : KernelState) (S P : ℕ → Bool) (cpu : ℕ) : Type 0 
 
 abbrev pub AreAdmitted : (ℕ → Bool) → (ℕ → Bool) → KernelState → List ℕ → Type 0
 AreAdmitted S P k [] = Unit {0}
-AreAdmitted S P k (cpu ∷ turns) = (own_turn S k cpu ≡ None → IsAdmitted k S P cpu) × AreAdmitted S P (after k cpu) turns
+AreAdmitted S P k (cpu ∷ turns) = (own_turn S k cpu ≡ None → IsAdmitted k S P cpu) × GivesWithin S k cpu × AreAdmitted S P (after k cpu) turns

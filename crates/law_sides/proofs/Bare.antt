@@ -1,4 +1,5 @@
--- A bare domain stays bare over turns of sides, bare and mute domains: it comes to hold no capability of an object, to wait for nobody, and to serve nobody who called.
+-- A bare domain stays bare over turns of sides, bare and mute domains: it comes to hold no capability of an object, to wait for none, and to serve no
+-- caller that called.
 use Rattle.std.proofs.Common.{◌≡◌, ◌≢◌, ◌⊎◌, ◌<◌, ℕ, List, length, refl, sym, ap, ◌∙◌, subst, inl, inr, arith}
 use Rattle.std.specs.Prelude.{Bool, true, false, Contains, IfSome, is_some, slice_get, Option, Some, None, option_map}
 use Rattle.std.proofs.lemmas.Option.{same_Some, slice_get_within}
@@ -49,7 +50,7 @@ use Rattle.law_sides.proofs.Muted.{AreMute, calls_own, gift_out}
 
 -- WHAT IS MADE
 
--- who makes an object may create
+-- a context that makes an object may create
 pub made_by : (k : KernelState) (cpu ec : ℕ) (o : Object) → Acts k cpu ec → slice_get (after k cpu).objects (length k.objects) ≡ Some o → MayCreate k (pd_of k ec)
 made_by k cpu ec o acts_ is = by_choice (next_to_act k cpu) refl (turn_grows k cpu)
   where
@@ -69,9 +70,9 @@ made_by k cpu ec o acts_ is = by_choice (next_to_act k cpu) refl (turn_grows k c
     by_choice None at grows = was grows.objects
     by_choice (Some c) at grows = by_growth c.actor (same_Some c.actor ec (ap (option_map (λ (x : Candidate). x.actor)) (sym at) ∙ acts_)) grows
 
--- WHO IS SERVED
+-- WHICH CALLER IS SERVED
 
--- one that serves who called did so before, or is called now
+-- a handler that serves a caller that called did so before, or is called now
 pub called_now : (s : Scenario) (before : List ℕ) (cpu n c : ℕ) → (context (after (run (boot s) before) cpu) n).caller ≡ Some (c, Call) →
     ((context (run (boot s) before) n).caller ≡ Some (c, Call)) ⊎ (Acts (run (boot s) before) cpu c × CallsAt (run (boot s) before) c n)
 called_now s before cpu n c is = elim (comes k cpu) [
@@ -187,7 +188,7 @@ module _ (s : Scenario) (before : List ℕ) (label : ℕ → ℕ) (S T M B : ℕ
     no_portal ec handler (inl c) b = bare.holds c.held.at.capability c.held.at.held.there c.held.at.held.kind (subst B (sym c.held.at.held.holder) b)
     no_portal ec handler (inr c) b = bare.holds c.held.capability c.held.held.there c.held.held.kind (subst B (sym c.held.held.holder) b)
 
-    -- WHO GIVES
+    -- WHICH CONTEXT GIVES
 
     -- a bare domain is given no object, and gives none
     not_received : (ec giver receiver : ℕ) → Acts k cpu ec → GivesTo k ec giver receiver → B receiver → ⊥
@@ -324,7 +325,7 @@ module _ (s : Scenario) (before : List ℕ) (label : ℕ → ℕ) (S T M B : ℕ
       | inr now ↦ not_next k domain (bare.there domain b) (sym (opened_now k cpu ec domain now.0 now.1).0)
     ]
 
-    -- who calls its handler holds a portal to it, with the right to call
+    -- a context that calls its handler holds a portal to it, with the right to call
     not_called : (ec c : ℕ) → Acts k cpu c → CallsAt k c ec → B (pd_of k ec) → ⊥
     not_called ec c acts_ by b = by_side (acts_in k S T cpu c apart acts_)
       where

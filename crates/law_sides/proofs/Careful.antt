@@ -1,6 +1,6 @@
 -- What is trusted was careful in a turn if the sides are isolated after it: so careful turns are found by judging states.
 use Rattle.std.proofs.Common.{◌≡◌, ◌≢◌, ◌⊎◌, ◌<◌, ◌++◌, ℕ, List, [], ◌∷◌, length, refl, sym, ap, ◌∙◌, subst, inl, inr}
-use Rattle.std.specs.Prelude.{true, false, Contains, is_some, Option, Some, None}
+use Rattle.std.specs.Prelude.{Bool, true, false, Contains, is_some, Option, Some, None}
 use Rattle.std.proofs.lemmas.Bool.{cases_eq}
 use Rattle.std.proofs.lemmas.Option.{slice_get_within}
 use Rattle.nova_objects.specs.declared.object.Object.TheVariants.{Pd, Ec}
@@ -59,8 +59,8 @@ holder_before k cpu d t there = by_whence (whence k cpu d t.sound.forest there)
     by_whence (Child ec acts_ source was within gives) =
         slice_get_within k.objects d.pd Pd (receiver_there k ec source.pd d.pd t.sound t.homed (acting_one k cpu ec acts_) gives)
 
-pub careful_from : (k : KernelState) (label : ℕ → ℕ) (cpu : ℕ) → IsTaken k cpu → IsWithinPolicy (after k cpu) (labels_after k label cpu) → MayTakeTurn k label cpu
-careful_from k label cpu t policy ec acts_ trusted = record {
+pub careful_from : {shared : ℕ → Bool} (k : KernelState) (label : ℕ → ℕ) (cpu : ℕ) → IsTaken k cpu → IsWithinPolicy shared (after k cpu) (labels_after k label cpu) → MayTakeTurn shared k label cpu
+careful_from {shared} k label cpu t policy ec acts_ trusted = record {
   gives = λ d there kind some. inr (held d there some kind);
   calls = λ handler is. called handler is (handler_there k cpu ec handler t is) (cases_eq (label (pd_of k handler)) 0);
   sends = λ handler mark is keeps. sent handler mark is keeps (cases_eq (label (pd_of k handler)) 0);
@@ -69,10 +69,10 @@ careful_from k label cpu t policy ec acts_ trusted = record {
     actor : IsEc k ec
     actor = context_ec k ec t.fits.tables (ap (λ (o : Option EcState). is_some o) (acting_one k cpu ec acts_).there)
 
-    held : (d : Derivation) → Contains (after k cpu).delegations.list d → label d.pd ≢ 0 → d.kind ≡ Obj → MayHold (after k cpu) (labels_after k label cpu) (label d.pd) d.target
+    held : (d : Derivation) → Contains (after k cpu).delegations.list d → label d.pd ≢ 0 → d.kind ≡ Obj → MayHold shared (after k cpu) (labels_after k label cpu) (label d.pd) d.target
     held d there some kind =
         let its = labels_old k label cpu d.pd (holder_before k cpu d t there) in
-        subst (λ (s : ℕ). MayHold (after k cpu) (labels_after k label cpu) s d.target) its (policy.capabilities d there kind (λ none. some (sym its ∙ none)))
+        subst (λ (s : ℕ). MayHold shared (after k cpu) (labels_after k label cpu) s d.target) its (policy.capabilities d there kind (λ none. some (sym its ∙ none)))
 
     own : labels_after k label cpu (pd_of (after k cpu) ec) ≡ label (pd_of k ec)
     own = label_kept k label cpu ec t.fits.tables actor
@@ -97,12 +97,12 @@ careful_from k label cpu t policy ec acts_ trusted = record {
         let its = label_kept k label cpu handler t.fits.tables (taker_ec k cpu handler ec mark t is keeps) in
         absurd (some (sym its ∙ sym (policy.takes handler ec mark is keeps (λ none. some (sym its ∙ none))) ∙ own ∙ trusted))
 
-pub careful_along : (s : Scenario) (before turns : List ℕ) (label : ℕ → ℕ) → StayIsolated (run (boot s) before) label turns → MayTakeTurns (run (boot s) before) label turns
-careful_along s before [] label within = tt
-careful_along s before (cpu ∷ turns) label within =
+pub careful_along : (shared : ℕ → Bool) (flows : ℕ → ℕ → Bool) (s : Scenario) (before turns : List ℕ) (label : ℕ → ℕ) → StayIsolated shared flows (run (boot s) before) label turns → MayTakeTurns shared (run (boot s) before) label turns
+careful_along shared flows s before [] label within = tt
+careful_along shared flows s before (cpu ∷ turns) label within =
     let k = run (boot s) before in
     let next : run (boot s) (before ++ cpu ∷ []) ≡ after k cpu = run_append (boot s) before (cpu ∷ []) in (
       careful_from k label cpu (turn_taken s before cpu) within.0.policy,
-      subst (λ (l : KernelState). MayTakeTurns l (labels_after k label cpu) turns) next
-          (careful_along s (before ++ cpu ∷ []) turns (labels_after k label cpu) (subst (λ (l : KernelState). StayIsolated l (labels_after k label cpu) turns) (sym next) within.1)),
+      subst (λ (l : KernelState). MayTakeTurns shared l (labels_after k label cpu) turns) next
+          (careful_along shared flows s (before ++ cpu ∷ []) turns (labels_after k label cpu) (subst (λ (l : KernelState). StayIsolated shared flows l (labels_after k label cpu) turns) (sym next) within.1)),
     )

@@ -15,7 +15,7 @@ pub not_both : (b : Bool) → b ≡ true → not b ≡ true → ⊥
 not_both true is none = absurd (cc)
 not_both false is none = absurd (cc)
 
--- one that may have a scheduling context is an execution context
+-- an object that may have a scheduling context is an execution context
 pub schedulable_ec : (k : KernelState) (n : ℕ) → option_map is_schedulable (slice_get k.objects n) ≡ Some true → IsEc k n
 schedulable_ec k n is = by_object (slice_get k.objects n) refl is
   where

@@ -8,7 +8,7 @@ use Rattle.nova_model.specs.declared.context.State.TheVariants.{Granting}
 use Rattle.law_integrity.specs.Confined.{IsMember}
 use Rattle.law_integrity.proofs.Labels.{IsEc}
 
--- of one that waits for a handler, or is in a state in which nobody is who isn't there
+-- of a context that waits for a handler, or is in a state in which none is that isn't there
 pub edge_there : (k : KernelState) (n h : ℕ) → edge k.contexts n ≡ Some h → (x : EcState) × (context_at k n ≡ Some x) × (edge_of x.state ≡ Some h)
 edge_there k n h is = by_entry (context_at k n) refl is
   where

@@ -12,7 +12,7 @@ leads_from d frame is =
     let parts = and_parts (nat_le d.target frame) (nat_lt frame (d.target + 2 ^ d.order)) is in
     record { first = leb-true d.target frame parts.0; last = ltb-true frame (d.target + 2 ^ d.order) parts.1 }
 
-leads_first : (d : Derivation) → LeadsTo d d.target
+pub leads_first : (d : Derivation) → LeadsTo d d.target
 leads_first d = let some = pow_pos d.order in record { first = omega arith; last = omega (arith, some) }
 
 -- a frame of both

@@ -1,6 +1,6 @@
 -- Where each trusted domain is at rest, bare or mute, whoever acts that is trusted is careful, whatever turns follow.
 use Rattle.std.proofs.Common.{◌≡◌, ◌≢◌, ◌⊎◌, ◌++◌, ℕ, List, [], ◌∷◌, refl, sym, ap, ◌∙◌, subst, inl, inr}
-use Rattle.std.specs.Prelude.{true, false, Contains, is_some, slice_get, Option, Some, None}
+use Rattle.std.specs.Prelude.{Bool, true, false, Contains, is_some, slice_get, Option, Some, None}
 use Rattle.std.proofs.lemmas.Bool.{and_parts, not-true}
 use Rattle.nova_objects.specs.declared.object.Object.{Object}
 use Rattle.nova_objects.specs.declared.object.Object.TheVariants.{Pd, Ec, Sc, Pt, Sm}
@@ -28,21 +28,23 @@ use Rattle.law_integrity.specs.Trusted.{IsCareful, IsWithinPolicy, MayHold, MayT
 use Rattle.law_integrity.proofs.Confined.{separate_after}
 use Rattle.law_integrity.proofs.Confining.{Child, Newest, Old, Whence, acting_one, acts_one, member_pd, object_kept, waits_edge, whence}
 use Rattle.law_integrity.proofs.Labels.{IsEc, IsTaken, context_ec, label_kept, turn_taken}
-use Rattle.law_integrity.proofs.Policy.{served_waits}
+use Rattle.law_integrity.proofs.Policy.{policy_after, served_waits}
 use Rattle.law_integrity.proofs.Resting.{acts_in}
 use Rattle.law_integrity.proofs.Sides.{within_along}
+use Rattle.law_sides.specs.Isolated.{CommandOwn}
 use Rattle.law_sides.specs.Roles.{AreHarmless, domain_of, is_no_grant, is_powerless, is_uncalled}
 use Rattle.law_sides.proofs.Bare.{AreBare, IsWeak, bare_after}
 use Rattle.law_sides.proofs.Careful.{handler_there}
 use Rattle.law_sides.proofs.Muted.{AreMute, gift_out, mute_after}
 use Rattle.law_sides.proofs.Parted.{bare_none, bare_waits, given_none, mute_first, parted}
+use Rattle.law_sides.proofs.Powers.{GivesNone, powers_after}
 use Rattle.law_sides.proofs.Rest.{none_after}
 use Rattle.law_sides.proofs.Roles.{IsBare, IsMute, Living, bare_context, bare_holds, bare_weak}
 use Rattle.law_sides.proofs.Stuck.{Nowhere}
 
 -- WHAT ROLES SAY
 
-module _ (k : KernelState) (label : ℕ → ℕ) (fits : TablesFit k) (policy : IsWithinPolicy k label) (harmless : AreHarmless k label) where
+module _ {shared : ℕ → Bool} (k : KernelState) (label : ℕ → ℕ) (fits : TablesFit k) (policy : IsWithinPolicy shared k label) (harmless : AreHarmless k label) where
   tables : HasTables k
   tables = fits.tables
 
@@ -88,7 +90,7 @@ module _ (k : KernelState) (label : ℕ → ℕ) (fits : TablesFit k) (policy : 
 
 -- A TURN
 
-module _ (s : Scenario) (before : List ℕ) (label : ℕ → ℕ) (S T M B : ℕ → Type 0) (cpu : ℕ) where
+module _ (shared : ℕ → Bool) (s : Scenario) (before : List ℕ) (label : ℕ → ℕ) (S T M B : ℕ → Type 0) (cpu : ℕ) where
   abbrev pub k : KernelState
   k = run (boot s) before
 
@@ -114,7 +116,7 @@ module _ (s : Scenario) (before : List ℕ) (label : ℕ → ℕ) (S T M B : ℕ
         waits_edge (after k cpu) ec handler
         (served_waits (after k cpu) handler ec mark (subst IsSound (run_append (boot s) before (cpu ∷ [])) (reached_sound s (before ++ cpu ∷ []))) is keeps)
 
-    careful_bare : (ec : ℕ) → Acts k cpu ec → B (pd_of k ec) → IsCareful k label cpu ec
+    careful_bare : (ec : ℕ) → Acts k cpu ec → B (pd_of k ec) → IsCareful shared k label cpu ec
     careful_bare ec acts_ b = record {
       gives = λ d there kind some. by_whence d kind some (whence k cpu d t.sound.forest there);
       calls = λ handler is. absurd (waits_not handler is);
@@ -129,14 +131,14 @@ module _ (s : Scenario) (before : List ℕ) (label : ℕ → ℕ) (S T M B : ℕ
         no_gift d source was kind some (RepliesWith caller mark state serves g r) = bare.holds source was kind (subst B g b)
         no_gift d source was kind some (GivesFirst state g) = bare.firsts ec d.pd state b
 
-        by_whence : (d : Derivation) → d.kind ≡ Obj → label d.pd ≢ 0 → Whence k cpu d → Contains k.delegations.list d ⊎ MayHold (after k cpu) (labels_after k label cpu) (label d.pd) d.target
+        by_whence : (d : Derivation) → d.kind ≡ Obj → label d.pd ≢ 0 → Whence k cpu d → Contains k.delegations.list d ⊎ MayHold shared (after k cpu) (labels_after k label cpu) (label d.pd) d.target
         by_whence d kind some (Old was) = inl was
         by_whence d kind some (Newest e its o first objects) =
             absurd (some (ap label (first.pd ∙ ap (pd_of k) (acts_one k cpu e ec its acts_)) ∙ bare.trusted (pd_of k ec) b))
         by_whence d kind some (Child e its source was within gives) =
             absurd (no_gift d source was (sym within.kind ∙ kind) some (as_one d source e ec its acts_ gives))
 
-    careful_mute : (ec : ℕ) → Acts k cpu ec → M (pd_of k ec) → IsCareful k label cpu ec
+    careful_mute : (ec : ℕ) → Acts k cpu ec → M (pd_of k ec) → IsCareful shared k label cpu ec
     careful_mute ec acts_ m = record {
       gives = λ d there kind some. by_whence d some (whence k cpu d t.sound.forest there);
       calls = λ handler is. inl (own handler is);
@@ -151,7 +153,7 @@ module _ (s : Scenario) (before : List ℕ) (label : ℕ → ℕ) (S T M B : ℕ
         by_gift d source some (RepliesWith caller mark state serves g r) = no_gift d source some (RepliesWith caller mark state serves g r) (subst M g m)
         by_gift d source some (GivesFirst state g) = no_gift d source some (GivesFirst state g) (subst M g m)
 
-        by_whence : (d : Derivation) → label d.pd ≢ 0 → Whence k cpu d → Contains k.delegations.list d ⊎ MayHold (after k cpu) (labels_after k label cpu) (label d.pd) d.target
+        by_whence : (d : Derivation) → label d.pd ≢ 0 → Whence k cpu d → Contains k.delegations.list d ⊎ MayHold shared (after k cpu) (labels_after k label cpu) (label d.pd) d.target
         by_whence d some (Old was) = inl was
         by_whence d some (Newest e its o first objects) = absurd (some (ap label (first.pd ∙ ap (pd_of k) (acts_one k cpu e ec its acts_)) ∙ mute.trusted (pd_of k ec) m))
         by_whence d some (Child e its source was within gives) = absurd (by_gift d source some (as_one d source e ec its acts_ gives))
@@ -163,43 +165,93 @@ module _ (s : Scenario) (before : List ℕ) (label : ℕ → ℕ) (S T M B : ℕ
             let still : more k M cpu (pd_of (after k cpu) ec) = inl (subst M (sym (same_pd ec (actor_ec ec acts_))) m) in
             sym (label_kept k label cpu handler t.fits.tables h) ∙ mute_later.trusted (pd_of (after k cpu) handler) (mute_later.leaves ec handler is still)
 
-    pub takes : MayTakeTurn k label cpu
+    -- and it gives a side no capability
+    pub gives_none : GivesNone k label cpu
+    gives_none ec acts_ trusted d source was kind some gives = by_side (acts_in k S T cpu ec apart acts_)
+      where
+        by_bare : B (pd_of k ec) → GivesTo k ec source.pd d.pd → ⊥
+        by_bare b (TakesOfCaller caller mark state serves g r) = some (ap label (sym r) ∙ trusted)
+        by_bare b (RepliesWith caller mark state serves g r) = bare.holds source was kind (subst B g b)
+        by_bare b (GivesFirst state g) = bare.firsts ec d.pd state b
+
+        out : GivesTo k ec source.pd d.pd → M source.pd → ⊥
+        out g giver = some (mute.trusted d.pd (gift_out s before label S T M B cpu t mute ec source.pd d.pd acts_ g giver))
+
+        by_mute : M (pd_of k ec) → GivesTo k ec source.pd d.pd → ⊥
+        by_mute m (TakesOfCaller caller mark state serves g r) = some (ap label (sym r) ∙ trusted)
+        by_mute m (RepliesWith caller mark state serves g r) = out (RepliesWith caller mark state serves g r) (subst M g m)
+        by_mute m (GivesFirst state g) = out (GivesFirst state g) (subst M g m)
+
+        by_role : (label (pd_of k ec) ≢ 0) ⊎ (B (pd_of k ec) ⊎ M (pd_of k ec)) → ⊥
+        by_role (inl sided) = sided trusted
+        by_role (inr (inl b)) = by_bare b gives
+        by_role (inr (inr m)) = by_mute m gives
+
+        by_side : IsMember k S ec ⊎ IsMember k T ec → ⊥
+        by_side (inl m) = by_role (bare.sides (pd_of k ec) (member_pd k S ec m))
+        by_side (inr m) = none m.domain m.of
+
+    pub takes : MayTakeTurn shared k label cpu
     takes ec acts_ trusted = by_side (acts_in k S T cpu ec apart acts_)
       where
-        by_role : (label (pd_of k ec) ≢ 0) ⊎ (B (pd_of k ec) ⊎ M (pd_of k ec)) → IsCareful k label cpu ec
+        by_role : (label (pd_of k ec) ≢ 0) ⊎ (B (pd_of k ec) ⊎ M (pd_of k ec)) → IsCareful shared k label cpu ec
         by_role (inl some) = absurd (some trusted)
         by_role (inr (inl b)) = careful_bare ec acts_ b
         by_role (inr (inr m)) = careful_mute ec acts_ m
 
-        by_side : IsMember k S ec ⊎ IsMember k T ec → IsCareful k label cpu ec
+        by_side : IsMember k S ec ⊎ IsMember k T ec → IsCareful shared k label cpu ec
         by_side (inl m) = by_role (bare.sides (pd_of k ec) (member_pd k S ec m))
         by_side (inr m) = absurd (none m.domain m.of)
 
 -- TURN AFTER TURN
 
-takes_along : (s : Scenario) (before turns : List ℕ) (label : ℕ → ℕ) (S T M B : ℕ → Type 0) → AreSeparate (run (boot s) before) S T → ((n : ℕ) → T n → ⊥) → AreBare (run (boot s) before) label S M B →
-    AreMute (run (boot s) before) label S M → MayTakeTurns (run (boot s) before) label turns
-takes_along s before [] label S T M B apart none bare mute = tt
-takes_along s before (cpu ∷ turns) label S T M B apart none bare mute =
+takes_along : (shared : ℕ → Bool) (s : Scenario) (before turns : List ℕ) (label : ℕ → ℕ) (S T M B : ℕ → Type 0) → AreSeparate (run (boot s) before) S T → ((n : ℕ) → T n → ⊥) → AreBare (run (boot s) before) label S M B →
+    AreMute (run (boot s) before) label S M → MayTakeTurns shared (run (boot s) before) label turns
+takes_along shared s before [] label S T M B apart none bare mute = tt
+takes_along shared s before (cpu ∷ turns) label S T M B apart none bare mute =
     let k = run (boot s) before in
     let t = turn_taken s before cpu in
     let next : run (boot s) (before ++ cpu ∷ []) ≡ after k cpu = run_append (boot s) before (cpu ∷ []) in (
-      takes s before label S T M B cpu t apart none bare mute,
-      subst (λ (l : KernelState). MayTakeTurns l (labels_after k label cpu) turns) next
-          (takes_along s (before ++ cpu ∷ []) turns (labels_after k label cpu) (more k S cpu) (more k T cpu) (more k M cpu) B
+      takes shared s before label S T M B cpu t apart none bare mute,
+      subst (λ (l : KernelState). MayTakeTurns shared l (labels_after k label cpu) turns) next
+          (takes_along shared s (before ++ cpu ∷ []) turns (labels_after k label cpu) (more k S cpu) (more k T cpu) (more k M cpu) B
           (subst (λ (l : KernelState). AreSeparate l (more k S cpu) (more k T cpu)) (sym next) (separate_after s before S T cpu apart)) (none_after k T cpu none)
           (subst (λ (l : KernelState). AreBare l (labels_after k label cpu) (more k S cpu) (more k M cpu) B) (sym next) (bare_after s before label S T M B cpu t apart none bare mute))
           (subst (λ (l : KernelState). AreMute l (labels_after k label cpu) (more k S cpu) (more k M cpu)) (sym next) (mute_after s before label S T M B cpu t mute apart none bare.sides bare.holds))),
     )
 
-pub harmless_turns : (s : Scenario) (before turns : List ℕ) (label : ℕ → ℕ) → IsWithinPolicy (run (boot s) before) label → AreHarmless (run (boot s) before) label →
-    MayTakeTurns (run (boot s) before) label turns
-harmless_turns s before turns label policy harmless =
+pub harmless_turns : {shared : ℕ → Bool} (s : Scenario) (before turns : List ℕ) (label : ℕ → ℕ) → IsWithinPolicy shared (run (boot s) before) label → AreHarmless (run (boot s) before) label →
+    MayTakeTurns shared (run (boot s) before) label turns
+harmless_turns {shared} s before turns label policy harmless =
     let k = run (boot s) before in
     let fits = boot_run_fits s before in
-    takes_along s before turns label (Living k label) Nowhere (IsMute k label) (IsBare k label) (parted k label fits policy harmless) (λ n none. none) (bare_first k label fits policy harmless)
+    takes_along shared s before turns label (Living k label) Nowhere (IsMute k label) (IsBare k label) (parted k label fits policy harmless) (λ n none. none) (bare_first k label fits policy harmless)
     (mute_first k label fits policy harmless)
 
-pub harmless_within : (s : Scenario) (before turns : List ℕ) (label : ℕ → ℕ) → IsWithinPolicy (run (boot s) before) label → AreHarmless (run (boot s) before) label →
-    IsWithinPolicy (run (run (boot s) before) turns) (labels (run (boot s) before) label turns)
-harmless_within s before turns label policy harmless = within_along s before turns label policy (harmless_turns s before turns label policy harmless)
+pub harmless_within : {shared : ℕ → Bool} (s : Scenario) (before turns : List ℕ) (label : ℕ → ℕ) → IsWithinPolicy shared (run (boot s) before) label → AreHarmless (run (boot s) before) label →
+    IsWithinPolicy shared (run (run (boot s) before) turns) (labels (run (boot s) before) label turns)
+harmless_within {shared} s before turns label policy harmless = within_along s before turns label policy (harmless_turns s before turns label policy harmless)
+
+powers_along : (shared : ℕ → Bool) (s : Scenario) (before turns : List ℕ) (label : ℕ → ℕ) (S T M B : ℕ → Type 0) → AreSeparate (run (boot s) before) S T → ((n : ℕ) → T n → ⊥) →
+    AreBare (run (boot s) before) label S M B → AreMute (run (boot s) before) label S M → IsWithinPolicy shared (run (boot s) before) label → CommandOwn (run (boot s) before) label →
+    CommandOwn (run (run (boot s) before) turns) (labels (run (boot s) before) label turns)
+powers_along shared s before [] label S T M B apart none bare mute policy own = own
+powers_along shared s before (cpu ∷ turns) label S T M B apart none bare mute policy own =
+    let k = run (boot s) before in
+    let t = turn_taken s before cpu in
+    let next : run (boot s) (before ++ cpu ∷ []) ≡ after k cpu = run_append (boot s) before (cpu ∷ []) in
+    subst (λ (l : KernelState). CommandOwn (run l turns) (labels l (labels_after k label cpu) turns)) next
+    (powers_along shared s (before ++ cpu ∷ []) turns (labels_after k label cpu) (more k S cpu) (more k T cpu) (more k M cpu) B
+    (subst (λ (l : KernelState). AreSeparate l (more k S cpu) (more k T cpu)) (sym next) (separate_after s before S T cpu apart)) (none_after k T cpu none)
+    (subst (λ (l : KernelState). AreBare l (labels_after k label cpu) (more k S cpu) (more k M cpu) B) (sym next) (bare_after s before label S T M B cpu t apart none bare mute))
+    (subst (λ (l : KernelState). AreMute l (labels_after k label cpu) (more k S cpu) (more k M cpu)) (sym next) (mute_after s before label S T M B cpu t mute apart none bare.sides bare.holds))
+    (subst (λ (l : KernelState). IsWithinPolicy shared l (labels_after k label cpu)) (sym next) (policy_after k label cpu t policy (takes shared s before label S T M B cpu t apart none bare mute)))
+    (subst (λ (l : KernelState). CommandOwn l (labels_after k label cpu)) (sym next) (powers_after k label cpu t policy own (gives_none shared s before label S T M B cpu t apart none bare mute))))
+
+pub harmless_powers : {shared : ℕ → Bool} (s : Scenario) (before turns : List ℕ) (label : ℕ → ℕ) → IsWithinPolicy shared (run (boot s) before) label → AreHarmless (run (boot s) before) label →
+    CommandOwn (run (boot s) before) label → CommandOwn (run (run (boot s) before) turns) (labels (run (boot s) before) label turns)
+harmless_powers {shared} s before turns label policy harmless own =
+    let k = run (boot s) before in
+    let fits = boot_run_fits s before in
+    powers_along shared s before turns label (Living k label) Nowhere (IsMute k label) (IsBare k label) (parted k label fits policy harmless) (λ n none. none) (bare_first k label fits policy harmless)
+    (mute_first k label fits policy harmless) policy own

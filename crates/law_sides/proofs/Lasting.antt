@@ -1,6 +1,6 @@
 -- Where all that is trusted is at rest the sides stay isolated, whatever turns follow.
-use Rattle.std.proofs.Common.{◌≡◌, ◌≢◌, ◌++◌, ℕ, zero, suc, List, [], ◌∷◌, length, refl, sym, ap, ◌∙◌, subst, inl, inr}
-use Rattle.std.specs.Prelude.{is_some, Contains, slice_get, Option, Some, None, option_map}
+use Rattle.std.proofs.Common.{◌≡◌, ◌≢◌, ◌⊎◌, ◌++◌, ℕ, zero, suc, List, [], ◌∷◌, length, refl, sym, ap, ◌∙◌, subst, inl, inr}
+use Rattle.std.specs.Prelude.{Bool, true, is_some, Contains, slice_get, Option, Some, None, option_map}
 use Rattle.std.proofs.lemmas.Option.{same_Some, slice_get_within}
 use Rattle.nova_objects.specs.declared.object.Object.{Object}
 use Rattle.nova_objects.specs.declared.object.Object.TheVariants.{Pd, Ec, Sc, Pt, Sm}
@@ -29,6 +29,7 @@ use Rattle.law_integrity.proofs.Homes.{reached_homed}
 use Rattle.law_integrity.proofs.Labels.{IsEc, context_ec, labels_made, labels_old, local_ec}
 use Rattle.law_sides.specs.Isolated.{AreIsolated}
 use Rattle.law_sides.specs.Resting.{IsAtRest, Sided}
+use Rattle.law_sides.proofs.Parents.{own_along}
 use Rattle.law_sides.proofs.Stuck.{Nowhere}
 use Rattle.law_sides.proofs.Rest.{first_sided, resting_reach, resting_within, separate_here, sided_along}
 
@@ -125,10 +126,10 @@ since_first : (k : KernelState) (label : ℕ → ℕ) (turns : List ℕ) (side r
 since_first k label [] side right frame since = since
 since_first k label (cpu ∷ turns) side right frame since = since.0
 
-pub resting_isolated : (s : Scenario) (before turns : List ℕ) (label : ℕ → ℕ) → AreIsolated (run (boot s) before) label → IsAtRest (run (boot s) before) label →
-    AreIsolated (run (run (boot s) before) turns) (labels (run (boot s) before) label turns)
-resting_isolated s before turns label isolated at_rest =
-    record { policy = policy; powers = λ d there kind some power. own d there kind some; exits = λ waiter handler is came some. waits waiter handler is some; frames = λ side other frame some more reach any. apart side other frame some more reach any }
+pub resting_isolated : {shared : ℕ → Bool} {flows : ℕ → ℕ → Bool} (s : Scenario) (before turns : List ℕ) (label : ℕ → ℕ) → AreIsolated shared flows (run (boot s) before) label → IsAtRest (run (boot s) before) label →
+    AreIsolated shared flows (run (run (boot s) before) turns) (labels (run (boot s) before) label turns)
+resting_isolated {shared} {flows} s before turns label isolated at_rest =
+    record { policy = policy; powers = λ d there kind some power. own d there kind some; exits = λ waiter handler is came some. waits waiter handler is some; frames = λ side other frame some more reach any. apart side other frame some more reach any; parents = own_along s before turns label (Sided label) Nowhere (separate_here s before label isolated.policy at_rest) (λ n none. none) (first_sided k label at_rest) isolated.policy isolated.parents }
   where
     k : KernelState
     k = run (boot s) before
@@ -136,7 +137,7 @@ resting_isolated s before turns label isolated at_rest =
     later : ℕ → ℕ
     later = labels k label turns
 
-    policy : IsWithinPolicy (run k turns) later
+    policy : IsWithinPolicy shared (run k turns) later
     policy = resting_within s before turns label isolated.policy at_rest
 
     separate : AreSeparate (run k turns) (grown k (Sided label) turns) (grown k Nowhere turns)
@@ -173,7 +174,7 @@ resting_isolated s before turns label isolated at_rest =
         by_wait (inl same) = same
         by_wait (inr client) = absurd (waiting client.0)
 
-    apart : (side other frame : ℕ) → side ≢ 0 → other ≢ 0 → Reach (run k turns) (Labelled later side) write_right frame → ReachAny (run k turns) (Labelled later other) frame → other ≡ side
+    apart : (side other frame : ℕ) → side ≢ 0 → other ≢ 0 → Reach (run k turns) (Labelled later side) write_right frame → ReachAny (run k turns) (Labelled later other) frame → (other ≡ side) ⊎ (flows side other ≡ true)
     apart side other frame some more_ reach any =
         isolated.frames side other frame some more_ (since_first k label turns side write_right frame (resting_reach s before turns label side write_right frame isolated.policy at_rest some reach))
         (any_reached (since_first k label turns other 0 frame (resting_reach s before turns label other 0 frame isolated.policy at_rest more_ (reached_none any))))

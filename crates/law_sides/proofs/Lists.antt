@@ -55,7 +55,7 @@ module _ {Y : Type 0} (P : Y → Type 0) where
     listed_all n (y ∷ ys) (suc i) x a at =
         moved ((n + 1) + i) (n + suc i) x (omega arith) (listed_all (n + 1) ys i x (all_right (f (n, y)) (flat_map f (enumerate_from (n + 1) ys)) a) at)
 
--- what is found among numbered ones has its number
+-- what is found among numbered elements has its number
 pub in_listed : {X : Type 0} (m : ℕ) (xs : List X) (e : ℕ × X) → IsIn (enumerate_from m xs) e → (i : ℕ) × (e.0 ≡ m + i) × (slice_get xs i ≡ Some e.1)
 in_listed m [] e none = absurd none
 in_listed {X} m (x ∷ xs) e (inl same) = (0, (let its : m ≡ e.0 = ap (λ (p : ℕ × X). p.0) same in omega arith), ap (λ (p : ℕ × X). Some p.1) same)
@@ -86,7 +86,7 @@ in_numbered xs e i =
     let same : e.0 ≡ its.0 = (let at = its.1 in omega (arith, at)) in
     ap (slice_get xs) same ∙ its.2
 
--- a search among numbered ones, from the one at which a loop is
+-- a search among numbered elements, from that at which a loop is
 numbered_here : {X : Type 0} (p : ℕ × X → Bool) (xs : List X) (i : ℕ) (d : X) → i < length xs → (all : Option (ℕ × X)) → find p (enumerate_from i (drop i xs)) ≡ all →
     (if p (i, get_or xs i d) then Some (i, get_or xs i d) else find p (enumerate_from (i + 1) (drop (i + 1) xs))) ≡ all
 numbered_here {X} p xs i d below all left = sym (ap (λ (l : List X). find p (enumerate_from i l)) (drop_more xs i d below)) ∙ left

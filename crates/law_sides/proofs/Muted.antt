@@ -1,4 +1,5 @@
--- A mute domain stays mute over turns of sides, bare and mute domains: what it holds is its own or controlled at most, no capability of a side leads there, and it waits with nobody else.
+-- A mute domain stays mute over turns of sides, bare and mute domains: what it holds is its own or controlled at most, no capability of a side leads
+-- there, and it waits with no other.
 use Rattle.std.proofs.Common.{◌≡◌, ◌≢◌, ◌⊎◌, ℕ, List, length, refl, sym, ap, ◌∙◌, subst, inl, inr}
 use Rattle.std.specs.Prelude.{true, not, Contains, is_some, slice_get, Option, Some}
 use Rattle.std.proofs.lemmas.Bool.{and_parts}
@@ -110,7 +111,7 @@ module _ (s : Scenario) (before : List ℕ) (label : ℕ → ℕ) (S T M B : ℕ
       object_same : slice_get new.objects d.target ≡ slice_get k.objects e.target
       object_same = object_kept k cpu d.target found.0 found.1 ∙ sym found.1 ∙ ap (slice_get k.objects) same
 
-    -- WHO GIVES TO WHOM
+    -- WHICH CONTEXT GIVES TO WHICH
 
     gift_in : (ec giver receiver : ℕ) → Acts k cpu ec → GivesTo k ec giver receiver → M receiver → M giver
     gift_in ec giver receiver acts_ (TakesOfCaller caller mark state serves g r) m =
@@ -165,7 +166,7 @@ module _ (s : Scenario) (before : List ℕ) (label : ℕ → ℕ) (S T M B : ℕ
 
     module _ (apart : AreSeparate k S T) (none : (n : ℕ) → T n → ⊥) (sides : (n : ℕ) → S n → (label n ≢ 0) ⊎ (B n ⊎ M n))
         (empty : (d : Derivation) → Contains k.delegations.list d → d.kind ≡ Obj → B d.pd → ⊥) where
-      -- who acts is of a side, or of a domain that is bare or mute
+      -- the context that acts is of a side, or of a domain that is bare or mute
       actor_in : (ec : ℕ) → Acts k cpu ec → (label (pd_of k ec) ≢ 0) ⊎ (B (pd_of k ec) ⊎ M (pd_of k ec))
       actor_in ec acts_ = by_set (acts_in k S T cpu ec apart acts_)
         where
@@ -305,7 +306,7 @@ module _ (s : Scenario) (before : List ℕ) (label : ℕ → ℕ) (S T M B : ℕ
           by_whence (Child ec acts_ source was within gives) =
               by_giver ec source acts_ gives was within (was_side (receiver_there k ec source.pd d.pd t.sound t.homed (acting_one k cpu ec acts_) gives)) (giver_in ec source.pd d.pd acts_ gives)
 
-      -- WHO WAITS, AND FIRST RANGES
+      -- WHICH CONTEXTS WAIT, AND FIRST RANGES
 
       enters_after : (waiter handler : ℕ) → edge new.contexts waiter ≡ Some handler → more k M cpu (pd_of new handler) → more k M cpu (pd_of new waiter)
       enters_after waiter handler is m = elim (edge_came k cpu waiter handler t.rightful is) [

@@ -41,7 +41,7 @@ resting_waits k acting cpu other h rests is = cc
 resting_grant : (k : KernelState) (acting : ℕ → Bool) (cpu : ℕ) (new : Option ℕ) (s : State) → is_resting_in k acting cpu s ≡ true → s ≡ Granting new → ⊥
 resting_grant k acting cpu new s rests is = let off : is_resting_in k acting cpu (Granting new) ≡ true = subst (λ (q : State). is_resting_in k acting cpu q ≡ true) is rests in cc
 
-module _ (k : KernelState) (label : ℕ → ℕ) (fits : TablesFit k) (policy : IsWithinPolicy k label) (harmless : AreHarmless k label) where
+module _ {shared : ℕ → Bool} (k : KernelState) (label : ℕ → ℕ) (fits : TablesFit k) (policy : IsWithinPolicy shared k label) (harmless : AreHarmless k label) where
   tables : HasTables k
   tables = fits.tables
 

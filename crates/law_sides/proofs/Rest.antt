@@ -1,6 +1,6 @@
 -- Where all that is trusted is at rest nobody acts that is trusted, whatever turns follow.
 use Rattle.std.proofs.Common.{◌≡◌, ◌≢◌, ◌⊎◌, ◌++◌, ℕ, List, [], ◌∷◌, sym, ap, ◌∙◌, subst, inl, inr}
-use Rattle.std.specs.Prelude.{is_some, not, slice_get, Option, Some}
+use Rattle.std.specs.Prelude.{Bool, is_some, not, slice_get, Option, Some}
 use Rattle.std.proofs.lemmas.Bool.{cases_eq, ne_eqb}
 use Rattle.nova_objects.specs.declared.object.Object.TheVariants.{Pd}
 use Rattle.nova_model.specs.Boot.{Scenario, boot}
@@ -25,8 +25,8 @@ use Rattle.law_sides.proofs.Parted.{resting_waits}
 use Rattle.law_sides.proofs.Stuck.{Nowhere, RaisesByActing, idle_from, nowhere_closed}
 
 -- the sides together, beside nothing
-separate_from : (k : KernelState) (label : ℕ → ℕ) → TablesFit k → IsWithinPolicy k label → IsAtRest k label → AreSeparate k (Sided label) Nowhere
-separate_from k label fits policy at_rest = record {
+separate_from : {shared : ℕ → Bool} (k : KernelState) (label : ℕ → ℕ) → TablesFit k → IsWithinPolicy shared k label → IsAtRest k label → AreSeparate k (Sided label) Nowhere
+separate_from {shared} k label fits policy at_rest = record {
   first = record {
     there = λ n some. at_rest.domains n some;
     capabilities = λ d has some kind. at_rest.capabilities d has kind some;
@@ -61,7 +61,7 @@ separate_from k label fits policy at_rest = record {
 abbrev pub AreSided : KernelState → (ℕ → ℕ) → (ℕ → Type 0) → Type 0
 AreSided k label S = (n : ℕ) → S n → (label n ≢ 0) × (slice_get k.objects n ≡ Some Pd)
 
-sided_after : (k : KernelState) (label : ℕ → ℕ) (S : ℕ → Type 0) (cpu : ℕ) → AreSided k label S → AreSided (after k cpu) (labels_after k label cpu) (more k S cpu)
+pub sided_after : (k : KernelState) (label : ℕ → ℕ) (S : ℕ → Type 0) (cpu : ℕ) → AreSided k label S → AreSided (after k cpu) (labels_after k label cpu) (more k S cpu)
 sided_after k label S cpu of n (inl is) =
     let its = of n is in
     (λ none. its.0 (sym (labels_old k label cpu n (slice_get_within k.objects n Pd its.1)) ∙ none), object_kept k cpu n Pd its.1)
@@ -73,15 +73,15 @@ pub none_after : (k : KernelState) (T : ℕ → Type 0) (cpu : ℕ) → ((n : �
 none_after k T cpu none n (inl is) = none n is
 none_after k T cpu none n (inr made) = none made.of.domain made.of.of
 
-takes_turns : (s : Scenario) (before turns : List ℕ) (label : ℕ → ℕ) (S T : ℕ → Type 0) → AreSeparate (run (boot s) before) S T → AreSided (run (boot s) before) label S → ((n : ℕ) → T n → ⊥) →
-    MayTakeTurns (run (boot s) before) label turns
-takes_turns s before [] label S T apart of none = tt
-takes_turns s before (cpu ∷ turns) label S T apart of none =
+pub takes_turns : (shared : ℕ → Bool) (s : Scenario) (before turns : List ℕ) (label : ℕ → ℕ) (S T : ℕ → Type 0) → AreSeparate (run (boot s) before) S T → AreSided (run (boot s) before) label S → ((n : ℕ) → T n → ⊥) →
+    MayTakeTurns shared (run (boot s) before) label turns
+takes_turns shared s before [] label S T apart of none = tt
+takes_turns shared s before (cpu ∷ turns) label S T apart of none =
     let k = run (boot s) before in
     let next : run (boot s) (before ++ cpu ∷ []) ≡ after k cpu = run_append (boot s) before (cpu ∷ []) in (
       λ ec acts_ trusted. absurd (by_side k ec of trusted (acts_in k S T cpu ec apart acts_)),
-      subst (λ (l : KernelState). MayTakeTurns l (labels_after k label cpu) turns) next
-          (takes_turns s (before ++ cpu ∷ []) turns (labels_after k label cpu) (more k S cpu) (more k T cpu)
+      subst (λ (l : KernelState). MayTakeTurns shared l (labels_after k label cpu) turns) next
+          (takes_turns shared s (before ++ cpu ∷ []) turns (labels_after k label cpu) (more k S cpu) (more k T cpu)
           (subst (λ (l : KernelState). AreSeparate l (more k S cpu) (more k T cpu)) (sym next) (separate_after s before S T cpu apart))
           (subst (λ (l : KernelState). AreSided l (labels_after k label cpu) (more k S cpu)) (sym next) (sided_after k label S cpu of)) (none_after k T cpu none)),
     )
@@ -101,20 +101,20 @@ none_along k T (cpu ∷ turns) none n g = none_along (after k cpu) (more k T cpu
 pub first_sided : (k : KernelState) (label : ℕ → ℕ) → IsAtRest k label → AreSided k label (Sided label)
 first_sided k label at_rest n some = (some, at_rest.domains n some)
 
-pub separate_here : (s : Scenario) (before : List ℕ) (label : ℕ → ℕ) → IsWithinPolicy (run (boot s) before) label → IsAtRest (run (boot s) before) label → AreSeparate (run (boot s) before) (Sided label) Nowhere
-separate_here s before label policy at_rest = separate_from (run (boot s) before) label (boot_run_fits s before) policy at_rest
+pub separate_here : {shared : ℕ → Bool} (s : Scenario) (before : List ℕ) (label : ℕ → ℕ) → IsWithinPolicy shared (run (boot s) before) label → IsAtRest (run (boot s) before) label → AreSeparate (run (boot s) before) (Sided label) Nowhere
+separate_here {shared} s before label policy at_rest = separate_from (run (boot s) before) label (boot_run_fits s before) policy at_rest
 
-pub resting_turns : (s : Scenario) (before turns : List ℕ) (label : ℕ → ℕ) → IsWithinPolicy (run (boot s) before) label → IsAtRest (run (boot s) before) label → MayTakeTurns (run (boot s) before) label turns
-resting_turns s before turns label policy at_rest =
-    takes_turns s before turns label (Sided label) Nowhere (separate_here s before label policy at_rest) (first_sided (run (boot s) before) label at_rest) (λ n none. none)
+pub resting_turns : {shared : ℕ → Bool} (s : Scenario) (before turns : List ℕ) (label : ℕ → ℕ) → IsWithinPolicy shared (run (boot s) before) label → IsAtRest (run (boot s) before) label → MayTakeTurns shared (run (boot s) before) label turns
+resting_turns {shared} s before turns label policy at_rest =
+    takes_turns shared s before turns label (Sided label) Nowhere (separate_here s before label policy at_rest) (first_sided (run (boot s) before) label at_rest) (λ n none. none)
 
-pub resting_within : (s : Scenario) (before turns : List ℕ) (label : ℕ → ℕ) → IsWithinPolicy (run (boot s) before) label → IsAtRest (run (boot s) before) label →
-    IsWithinPolicy (run (run (boot s) before) turns) (labels (run (boot s) before) label turns)
-resting_within s before turns label policy at_rest = within_along s before turns label policy (resting_turns s before turns label policy at_rest)
+pub resting_within : {shared : ℕ → Bool} (s : Scenario) (before turns : List ℕ) (label : ℕ → ℕ) → IsWithinPolicy shared (run (boot s) before) label → IsAtRest (run (boot s) before) label →
+    IsWithinPolicy shared (run (run (boot s) before) turns) (labels (run (boot s) before) label turns)
+resting_within {shared} s before turns label policy at_rest = within_along s before turns label policy (resting_turns s before turns label policy at_rest)
 
-pub resting_acts : (s : Scenario) (before turns : List ℕ) (label : ℕ → ℕ) (cpu ec : ℕ) → IsWithinPolicy (run (boot s) before) label → IsAtRest (run (boot s) before) label →
+pub resting_acts : {shared : ℕ → Bool} (s : Scenario) (before turns : List ℕ) (label : ℕ → ℕ) (cpu ec : ℕ) → IsWithinPolicy shared (run (boot s) before) label → IsAtRest (run (boot s) before) label →
     Acts (run (run (boot s) before) turns) cpu ec → labels (run (boot s) before) label turns (pd_of (run (run (boot s) before) turns) ec) ≢ 0
-resting_acts s before turns label cpu ec policy at_rest acts_ =
+resting_acts {shared} s before turns label cpu ec policy at_rest acts_ =
     by_side (acts_along s before turns (Sided label) Nowhere cpu ec (separate_here s before label policy at_rest) acts_)
   where
     k : KernelState
@@ -124,19 +124,19 @@ resting_acts s before turns label cpu ec policy at_rest acts_ =
     by_side (inl m) = sided_along k label (Sided label) turns (first_sided k label at_rest) (pd_of (run k turns) ec) (member_pd (run k turns) (grown k (Sided label) turns) ec m)
     by_side (inr m) = absurd (none_along k Nowhere turns (λ n none. none) m.domain m.of)
 
-pub resting_reach : (s : Scenario) (before turns : List ℕ) (label : ℕ → ℕ) (side right frame : ℕ) → IsWithinPolicy (run (boot s) before) label → IsAtRest (run (boot s) before) label → side ≢ 0 →
+pub resting_reach : {shared : ℕ → Bool} (s : Scenario) (before turns : List ℕ) (label : ℕ → ℕ) (side right frame : ℕ) → IsWithinPolicy shared (run (boot s) before) label → IsAtRest (run (boot s) before) label → side ≢ 0 →
     Reach (run (run (boot s) before) turns) (Labelled (labels (run (boot s) before) label turns) side) right frame → ReachesSince (run (boot s) before) label turns side right frame
-resting_reach s before turns label side right frame policy at_rest some r =
+resting_reach {shared} s before turns label side right frame policy at_rest some r =
     by_way (side_reaches s before turns label side right frame policy (resting_turns s before turns label policy at_rest) some r)
   where
     by_way : ReachesSince (run (boot s) before) label turns side right frame ⊎ IsGivenFrame (run (boot s) before) label turns side right frame → ReachesSince (run (boot s) before) label turns side right frame
     by_way (inl since) = since
     by_way (inr given) = let t = given.turn in absurd (resting_acts s before t.before label t.cpu t.actor policy at_rest t.acts t.of)
 
-pub resting_holds : (s : Scenario) (before turns : List ℕ) (label : ℕ → ℕ) (side right object : ℕ) → IsWithinPolicy (run (boot s) before) label → IsAtRest (run (boot s) before) label → side ≢ 0 →
+pub resting_holds : {shared : ℕ → Bool} (s : Scenario) (before turns : List ℕ) (label : ℕ → ℕ) (side right object : ℕ) → IsWithinPolicy shared (run (boot s) before) label → IsAtRest (run (boot s) before) label → side ≢ 0 →
     Holds (run (run (boot s) before) turns) (Labelled (labels (run (boot s) before) label turns) side) right object →
     HoldsSince (run (boot s) before) label turns side right object ⊎ IsMadeBySide (run (boot s) before) label turns side right object
-resting_holds s before turns label side right object policy at_rest some h =
+resting_holds {shared} s before turns label side right object policy at_rest some h =
     by_way (side_holds s before turns label side right object policy (resting_turns s before turns label policy at_rest) some h)
   where
     by_way : HoldsSince (run (boot s) before) label turns side right object

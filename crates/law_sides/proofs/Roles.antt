@@ -33,7 +33,7 @@ if_there p o x h is = subst (λ (q : Option EcState). is_if_there p q ≡ true) 
 same_domain : (k : KernelState) (n : ℕ) (m : IsEc k n) → pd_of k n ≡ m.domain
 same_domain k n m = ap pd_in m.object
 
--- a capability of an object, and one that leads to a domain
+-- a capability of an object, and a capability that leads to a domain
 obj_not : (kind : Kind) → kind ≡ Obj → not (is_memory kind) ≡ true
 obj_not Mem is = absurd (cc)
 obj_not Obj is = refl

@@ -36,7 +36,7 @@ obj_not : (kind : Kind) → kind ≡ Obj → not (is_memory kind) ≡ true
 obj_not Mem is = absurd (cc)
 obj_not Obj is = refl
 
--- of all that a set may hold to raise a semaphore, it is in the hands of one that acts
+-- of all that a set may hold to raise a semaphore, it is in the hands of a context that acts
 abbrev pub RaisesByActing : KernelState → (ℕ → Bool) → (ℕ → Type 0) → Type 0
 RaisesByActing k acting S = (sm : ℕ) (h : Holds k S up_right sm) → acting h.capability.pd ≡ true
 

@@ -74,7 +74,7 @@ donor_ec k n cpu is = by_object (slice_get k.objects n) refl is
     by_object (Some (Pt e mtd ip)) at h = absurd (cc)
     by_object (Some Sm) at h = absurd (cc)
 
--- the state of one that is there
+-- the state of a context that is there
 pub state_at : (o : Option EcState) (x : EcState) → o ≡ Some x → (context_in o).state ≡ x.state
 state_at o x is = ap (λ (p : Option EcState). (context_in p).state) is
 

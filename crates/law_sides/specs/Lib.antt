@@ -1,5 +1,6 @@
 pub use Rattle.nova_ties.specs.Ties
 pub mod Isolated
+pub mod Shared
 pub mod Tied
 pub mod Resting
 pub mod Roles

@@ -97,6 +97,6 @@ is_stirring k label (n, other) = false
 -- ALONG TURNS
 
 -- after each of these turns the sides are isolated, with the labels that domains have then
-abbrev pub StayIsolated : KernelState → (ℕ → ℕ) → List ℕ → Type 0
-StayIsolated k label [] = Unit {0}
-StayIsolated k label (cpu ∷ turns) = AreIsolated (after k cpu) (labels_after k label cpu) × StayIsolated (after k cpu) (labels_after k label cpu) turns
+abbrev pub StayIsolated : (ℕ → Bool) → (ℕ → ℕ → Bool) → KernelState → (ℕ → ℕ) → List ℕ → Type 0
+StayIsolated shared flows k label [] = Unit {0}
+StayIsolated shared flows k label (cpu ∷ turns) = AreIsolated shared flows (after k cpu) (labels_after k label cpu) × StayIsolated shared flows (after k cpu) (labels_after k label cpu) turns

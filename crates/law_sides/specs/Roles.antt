@@ -1,4 +1,4 @@
--- Roles of trusted domains: those at rest do nothing, and a bare or a mute one is careful whatever its program does.
+-- Roles of trusted domains: those at rest do nothing, and a bare or a mute domain is careful whatever its program does.
 use Rattle.std.specs.Prelude.{◌≡◌, ◌≢◌, ◌==◌, ◌&&◌, ◌||◌, ℕ, Bool, true, false, not, slice_get, Option, Some, None}
 use Rattle.std.specs.List.{enumerate_from, list_all}
 use Rattle.nova_objects.specs.declared.object.Object.{Object}
@@ -67,7 +67,7 @@ abbrev pub gives_no_first : State → Bool
 gives_no_first (Granting (Some new)) = false
 gives_no_first other = true
 
--- it serves nobody who called
+-- it serves no caller that called
 abbrev pub is_uncalled : Option (ℕ × Mark) → Bool
 is_uncalled (Some (caller, Call)) = false
 is_uncalled other = true
@@ -100,8 +100,8 @@ rests_in k n (m, other) = true
 abbrev pub is_at_rest : KernelState → (ℕ → ℕ) → ℕ → Bool
 is_at_rest k label n = list_all (rests_by k label n) k.delegations.list && list_all (rests_in k n) (enumerate_from 0 k.objects)
 
--- BARE: it holds memory alone. Sides may send exits to its handlers, and do nothing else with what is its; and no execution context of its waits for a handler, serves who called it, or takes or gives a first range. So
--- what it gives is memory.
+-- BARE: it holds memory alone. Sides may send exits to its handlers, and do nothing else with what is its; and no execution context of its waits for
+-- a handler, serves a caller that called it, or takes or gives a first range. So what it gives is memory.
 
 abbrev pub is_bare_by : KernelState → (ℕ → ℕ) → ℕ → Derivation → Bool
 is_bare_by k label n d = not (is_held n d) && (not (is_reached_by k label n d) || is_powerless d.rights (slice_get k.objects d.target))

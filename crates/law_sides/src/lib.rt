@@ -5,7 +5,8 @@
 mod laws;
 
 pub use laws::{
+    a_source_is_not_reached_by_its_sink, all_memory_that_flows_is_told,
     bare_and_mute_domains_are_careful, isolated_sides_touch_no_frame_of_another,
     isolation_is_respect_of_ties, sides_beside_what_rests_are_apart_for_good,
-    sides_that_stay_isolated_met_careful_turns,
+    sides_share_a_semaphore_and_no_more, sides_that_stay_isolated_met_careful_turns,
 };

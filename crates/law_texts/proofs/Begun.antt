@@ -28,7 +28,7 @@ get_front [] ys i x is = cc
 get_front (y ∷ xs) ys zero x is = is
 get_front (y ∷ xs) ys (suc i) x is = get_front xs ys i x is
 
--- the root's thread, its scheduling context and that one's budget, and the consoles
+-- the root's thread, its scheduling context with its budget, and the consoles
 record HasRoot (root : Root) (consoles : ℕ) (k : KernelState) : Type 0 where
   thread : slice_get k.contexts 1 ≡ Some (Some (root_context root))
   pays : slice_get k.objects 2 ≡ Some (Sc 1 0 root.priority root.quantum)

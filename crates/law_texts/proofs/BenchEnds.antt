@@ -10,7 +10,7 @@ use Rattle.nova_model.specs.declared.event.Event.{Event}
 use Rattle.nova_report.specs.Summary.{count, is_gone, is_made}
 use Rattle.law_texts.proofs.BenchTurn.{IsTaken}
 
--- the turns of this order, none of them idle, leave the kernel quiet; so many derivations were made as children and removed, and are there
+-- the turns of this order, none of them idle, leave the kernel quiet; `m` derivations were made as children, `g` removed, and `c` are there
 pub record Ends (order : List ℕ) (k : KernelState) (m g c : ℕ) : Type 0 where
   pub free : IsFreeOfIdle k order
   pub quiet : is_quiet (run k order) ≡ true

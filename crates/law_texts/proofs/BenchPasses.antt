@@ -195,7 +195,7 @@ module _ (words : List ℕ) (t : Tables) (rest : List Derivation) (next : ℕ) (
 
 -- ALL PASSES
 
--- so many passes, behind as many that were
+-- as many passes as the number says, behind those that were
 abbrev pub pass_order : ℕ → ℕ → List ℕ
 pass_order zero pages = rest_order pages
 pass_order (suc j) pages = nine (pass_order j (pages + 1))

@@ -60,7 +60,7 @@ pub scope_is : (s n : ℕ) (rest : List Derivation) → AllByRecursion (IsMade s
 scope_is s n rest all =
     filter_same (in_scope the_revoke (with_made rest)) has_parent rest (λ x i. in_scope_is s n (own_capabilities ++ rest) x (all_at (IsMade s n) rest x all i))
 
--- ONE GOES
+-- A DERIVATION GOES
 
 itself_gone : (n : ℕ) → not (n == n) ≡ false
 itself_gone n = grind arith
@@ -103,7 +103,7 @@ module _ (words : List ℕ) (t : Tables) (m : Memory) (are : AreDomains t) (code
   abbrev pub over : KernelState
   over = kernel a (thread Dead 52 (file x8 x9 0 x12 7)) words no_transfer t (ram_pages ∷ xs) next m
 
-  -- nobody is runnable then
+  -- none is runnable then
   stays_there : actor over 1 ≡ 1
   stays_there = refl
 
@@ -149,7 +149,7 @@ module _ (words : List ℕ) (t : Tables) (m : Memory) (are : AreDomains t) (code
 
 -- HOW IT ENDS
 
--- the turns of a revoke of so many pages, and of the end behind it
+-- the turns of a revoke of as many pages as the number says, and of the end behind it
 abbrev pub revoke_order : ℕ → List ℕ
 revoke_order zero = 0 ∷ 0 ∷ 0 ∷ []
 revoke_order (suc j) = 0 ∷ revoke_order j

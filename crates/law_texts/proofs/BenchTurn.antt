@@ -42,7 +42,7 @@ pub no_entry : (clock : ℕ) (ds : List (Option Deadline)) → AllByRecursion Is
 unfolding next_entry
 no_entry clock ds all = rw (no_deadlines 3 ds all) refl
 
--- WHO IS CHOSEN
+-- WHICH CONTEXT IS CHOSEN
 
 pub no_candidates : (k : KernelState) (n : ℕ) (os : List Object) → AllByRecursion IsDomain os → candidates_from k 0 n os ≡ []
 no_candidates k n [] all = refl
@@ -87,7 +87,7 @@ module _ (a : Accounts) (x : EcState) (words : List ℕ) (transfer : Transfer) (
       ap (λ (cs : List Candidate). foremost (in_front (candidate_of k 0 2 (Sc 1 0 1 10)) cs)) (no_candidates k 3 t.objects are.objects)
       ∙ (ap (λ (o : Option Candidate). foremost (in_front o [])) candidate ∙ alone (the_thread a))
 
--- NOBODY IS STIRRED
+-- NONE IS STIRRED
 
 none_counted : (k : KernelState) (ec : ℕ) (d : Deed) (n : ℕ) (gs : List (Option ℕ)) → AllByRecursion IsNone gs → stirred_from k ec d n gs ≡ gs
 none_counted k ec d n [] all = refl

@@ -7,7 +7,7 @@ use Rattle.nova_model.specs.State.{KernelState}
 use Rattle.nova_report.specs.Summary.{summary}
 use Rattle.nova_report.specs.Words.{line_feed}
 
--- after so many turns of its one processor, none of them idle, the kernel is quiet, and this is the line
+-- after `turns` turns of its only processor, none of them idle, the kernel is quiet, and this is the line
 pub record EndsSo (number : ℕ) (k : KernelState) (turns : ℕ) (line : List ℕ) : Type 0 where
   pub no_idle : IsFreeOfIdle k (replicate turns 0)
   pub quiet : is_quiet (run k (replicate turns 0)) ≡ true

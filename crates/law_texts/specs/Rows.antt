@@ -10,14 +10,14 @@ use Rattle.nova_scenario.specs.Scenario.{scenario}
 use Rattle.nova_scenario.specs.declared.scenario.Scenario.{Scenario as ScenarioText}
 use Rattle.nova_text.specs.Line.{Row}
 
--- the header of an executable of entry 4,100, with so many program headers from byte 52 on
+-- the header of an executable of entry 4,100, with `count` program headers from byte 52 on
 abbrev pub file_header : ℕ → List ℕ
 file_header count =
     127 ∷ 69 ∷ 76 ∷ 70 ∷ 1 ∷ 1 ∷ 1 ∷ 0 ∷ 0 ∷ 0 ∷ 0 ∷ 0 ∷ 0 ∷ 0 ∷ 0 ∷ 0
     ∷ 2 ∷ 0 ∷ 243 ∷ 0 ∷ 1 ∷ 0 ∷ 0 ∷ 0 ∷ 4 ∷ 16 ∷ 0 ∷ 0 ∷ 52 ∷ 0 ∷ 0 ∷ 0
     ∷ 0 ∷ 0 ∷ 0 ∷ 0 ∷ 0 ∷ 0 ∷ 0 ∷ 0 ∷ 52 ∷ 0 ∷ 32 ∷ 0 ∷ count ∷ 0 ∷ 0 ∷ 0 ∷ 0 ∷ 0 ∷ 0 ∷ 0 ∷ []
 
--- a program header: type, then offset 8, address 4,096, physical address 7, so many bytes of the file and so many of memory, flags 5, alignment 1
+-- a program header: type, then offset 8, address 4,096, physical address 7, `file` bytes of the file and `memory` of memory, flags 5, alignment 1
 abbrev pub program_header : ℕ → ℕ → ℕ → List ℕ
 program_header kind file memory =
     kind ∷ 0 ∷ 0 ∷ 0 ∷ 8 ∷ 0 ∷ 0 ∷ 0 ∷ 0 ∷ 16 ∷ 0 ∷ 0 ∷ 7 ∷ 0 ∷ 0 ∷ 0

@@ -15,8 +15,8 @@ source_lines (SettingLine line setting ∷ more) = source_lines more
 source_lines (SourceLine line head ∷ more) = head ∷ source_lines more
 source_lines (ImageBlock head block ∷ more) = source_lines more
 
--- source n, counted from 0, is the alarm of that number: its processor, first moment, period and count are those of its line; it is of
--- object 3 + n, a semaphore whose counter is 0 and where nobody waits; and it hasn't rung
+-- source n, counted from 0, is the alarm of number `n`: its processor, first moment, period and count are those of its line; it is of object 3 + n, a
+-- semaphore whose counter is 0 and where none waits; and it hasn't rung
 pub record IsAlarmOf (k : KernelState) (n : ℕ) (head : SourceHead) : Type 0 where
   pub alarm : Alarm
   pub there : slice_get k.times.alarms n ≡ Some (record { alarm = alarm; next = alarm.first; rings = 0 })

@@ -13,10 +13,10 @@ ghost use Rattle.law_texts.specs.Benches.{EndsSo, bench_line, bench_turns};
 
 use nova_boot::bytes_lie_where_they_are_laid;
 
-/// The bench of each number from 1 to 90,000: it takes 10 turns for each domain and 9 more, none of them idle; then it is quiet, and its
-/// line says these turns, one derivation made and one removed for each domain, and one capability for each beside the four of the
-/// beginning. Two of the lines in full. On one processor any order that is free of idle turns, and either ends quiet or has at least so
-/// many turns, gives that line: so the run of a bench with ample limit does.
+/// The bench of each number from 1 to 90,000 ends quiet. It takes 10 turns for each domain and 9 more, none of them idle; then it is quiet, and its
+/// line says these turns, one derivation made and one removed for each domain, and one capability for each beside the four of the beginning. Two of
+/// the lines in full. On one processor any order that is free of idle turns, and either ends quiet or has at least as many turns, gives that line: so
+/// the run of a bench with ample limit does.
 pub fn benches_by_their_turns()
     ensures each { (number : ℕ) (s : Scenario) → 0 < number → number ≤ 90000 → scenario (generated number) ≡ Ok s →
         EndsSo number (boot (scenario_of s)) (bench_turns number) (bench_line number) }

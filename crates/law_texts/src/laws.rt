@@ -15,8 +15,8 @@ ghost use Rattle.law_texts.specs.Words.{HoldsItem};
 use nova_boot::images_lie_in_memory;
 use nova_gsi::{counters_tell_what_ended, sources_are_alarms};
 
-/// After boot the words of each hex block of a scenario's text, and those that each asm block assembles to, lie one after another from the
-/// block's address on, of each word the lowest byte first.
+/// After boot the words of each hex block of a scenario's text, and those that each asm block assembles to, lie one after another from the block's
+/// address on. Of each word the lowest byte is first.
 pub fn words_lie_at_their_address()
     ensures { (bytes : List ℕ) (s : Scenario) → scenario bytes ≡ Ok s
         → AllByRecursion (HoldsItem (boot (scenario_of s)).memory bytes) (items false (lines bytes)) }
@@ -24,10 +24,9 @@ pub fn words_lie_at_their_address()
     images_lie_in_memory();
 }
 
-/// Each line of a scenario's text that sets something says what the kernel begins with: its processors, its RAM, its consoles; of the root
-/// its stack pointer, with all other registers 0, its priority and quantum; and its pc, or that this is the entry of the first
-/// executable. The lines of sources are its alarms, in order: of each its processor, first moment, period and count, the semaphore of its
-/// place, and that it hasn't rung.
+/// Each line of a scenario's text that sets something says what the kernel begins with. That is its processors, its RAM, its consoles; of the root
+/// its stack pointer, with all other registers 0, its priority and quantum; and its pc, or that this is the entry of the first executable. The lines
+/// of sources are its alarms, in order: of each its processor, first moment, period and count, the semaphore of its place, and that it hasn't rung.
 pub fn settings_are_what_boot_begins_with()
     ensures settings { (bytes : List ℕ) (s : Scenario) → scenario bytes ≡ Ok s → AreTold (boot (scenario_of s)) (items false (lines bytes)) }
     ensures sources { (bytes : List ℕ) (s : Scenario) → scenario bytes ≡ Ok s → AreAlarms (boot (scenario_of s)) (source_lines (items false (lines bytes))) }
@@ -36,8 +35,8 @@ pub fn settings_are_what_boot_begins_with()
     counters_tell_what_ended();
 }
 
-/// A fault at a line of a text in which each block is closed is the fault of each text that begins with this one's bytes and lines,
-/// whatever comes behind them.
+/// A fault at a line of a text in which each block is closed is that of each text that begins with the same bytes and lines, whatever comes behind
+/// them.
 pub fn a_fault_of_closed_lines_stays()
     ensures { (bytes behind : List ℕ) (more : List Row) (f : At) → scenario bytes ≡ Err f → f.line ≤ length (lines bytes) → AreClosed (lines bytes) →
         lines (bytes ++ behind) ≡ lines bytes ++ more → scenario (bytes ++ behind) ≡ Err f }

@@ -11,9 +11,9 @@ ghost use Rattle.nova_scenario.specs.declared.statement.Start.TheVariants.{Addre
 ghost use Rattle.nova_scenario.specs.declared.statement.Statement.TheVariants.{Adds, Sets};
 ghost use Rattle.law_texts.specs.Rows.{a_raise, a_start, alarms_of_text, line_of, one_segment, segment_and};
 
-/// What some bytes are read as: a segment of 20 bytes of the file and 50 of memory, at its address and offset, with the entry of the file's
-/// header; one whose memory is less than its bytes is a fault of its header; headers of type 2 and of type 3, an interpreter's, are faults
-/// by their number; and one of type 4 is passed over.
+/// Some bytes are read so: a segment of 20 bytes of the file and 50 of memory, at its address and offset, with the entry of the file's header; a
+/// segment whose memory is less than its bytes is a fault of its header; headers of type 2 and of type 3, an interpreter's, are faults by their
+/// number; and a header of type 4 is passed over.
 pub fn executables_by_their_bytes()
     ensures segment { program (one_segment 20 50) ≡ Ok (record { entry = 4100; segments = record { address = 4096; offset = 8; file = 20; memory = 50 } ∷ [] }) }
     ensures memory { program (one_segment 20 19) ≡ Err (BadSegment 0) }

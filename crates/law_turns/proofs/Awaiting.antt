@@ -1,4 +1,4 @@
--- Whom a handler serves waits for it, and who acts waits for none that lives.
+-- The caller that a handler serves waits for it, and a context that acts waits for none that lives.
 use Rattle.std.proofs.Common.{◌≡◌, ℕ, refl, ap, ◌∙◌, sym, arith}
 use Rattle.std.specs.Prelude.{◌≢◌, ◌==◌, Bool, true, false, Option, Some, None, IsSome, option_map, option_and_then}
 use Rattle.nova_model.specs.Edges.{acts, acts_as, acts_by, caller_in, edge_of, is_dead, state_in}
@@ -22,7 +22,7 @@ same_or_not e f P same other = by_test (e == f) refl
     by_test true is = same (grind (arith, is))
     by_test false is = other (λ h. absurd (grind (arith, is, h)))
 
--- WHO ACTS
+-- WHICH CONTEXTS ACT
 
 pub acts_there : (cs : Contexts) (e : ℕ) → acts cs e ≡ true → IsSome (ec_in cs e)
 acts_there cs e able = by_entry (ec_in cs e) able
@@ -31,7 +31,7 @@ acts_there cs e able = by_entry (ec_in cs e) able
     by_entry None h = absurd (cc)
     by_entry (Some x) h = refl
 
--- it waits only for one that is dead, and is not dead or parked
+-- it waits only for a handler that is dead, and is not dead or parked
 pub waits_dead : (cs : Contexts) (e h : ℕ) → acts cs e ≡ true → state_in cs e ≡ Some (Calling h) → is_dead (state_in cs h) ≡ true
 waits_dead cs e h able is = sym (ap (acts_as cs) is) ∙ able
 
@@ -49,7 +49,7 @@ not_dead cs e able = by_state (state_in cs e) able
 pub not_parked : (cs : Contexts) (e : ℕ) → acts cs e ≡ true → state_in cs e ≢ Some Parked
 not_parked cs e able is = let stays = sym (ap (acts_as cs) is) ∙ able in absurd (cc)
 
--- WHOM A HANDLER SERVES
+-- WHICH CALLER A HANDLER SERVES
 
 abbrev pub Serves : Contexts → Type 0
 Serves cs = (e c : ℕ) (mark : Mark) → is_dead (state_in cs e) ≡ false → caller_in cs e ≡ Some (c, mark) → state_in cs c ≡ Some (Calling e)
@@ -57,7 +57,7 @@ Serves cs = (e c : ℕ) (mark : Mark) → is_dead (state_in cs e) ≡ false → 
 pub serves_of : (is_local : ℕ → Bool) (cs : Contexts) → AreServed is_local cs → Serves cs
 serves_of is_local cs served e c mark alive has = (served.linked c e).waits mark has alive
 
--- whom one that acts serves
+-- the caller that a context that acts serves
 pub served_waits : (k : KernelState) (ec caller : ℕ) (mark : Mark) → acts k.contexts ec ≡ true → Serves k.contexts → (context k ec).caller ≡ Some (caller, mark) →
     state_in k.contexts caller ≡ Some (Calling ec)
 served_waits k ec caller mark able serves has =

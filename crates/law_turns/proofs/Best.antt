@@ -24,7 +24,7 @@ found p (x ∷ xs) = by_test (p x) refl (find p xs) (found p xs)
     by_test true is o others = record { there = (0, omega arith, refl); passes = is }
     by_test false is o others = by_rest o others
 
--- a test that each passes, and one that finds nothing
+-- a test that each passes, and a test that finds nothing
 all_at : (p : Candidate → Bool) (cs : List Candidate) (d : Candidate) (n : ℕ) → n < length cs → slice_index_or cs n d ≡ d → list_all p cs ≡ true → p d ≡ true
 all_at p [] d n lt is h = absurd (omega arith)
 all_at p (x ∷ xs) d zero lt is h = grind arith
@@ -43,7 +43,7 @@ goes_before-self a = grind arith
 goes_before-through : (a b c : Candidate) → goes_before a b ≡ true → goes_before b c ≡ true → goes_before a c ≡ true
 goes_before-through a b c h k = grind arith
 
--- one that goes before another has none before it where that one has none
+-- a candidate that goes before another has none before it where the other has none
 none_past : (c b : Candidate) (xs : List Candidate) → goes_before c b ≡ true →
     list_all (λ x. not (goes_before x b)) xs ≡ true → list_all (λ x. not (goes_before x c)) xs ≡ true
 none_past c b [] h all = refl
@@ -85,7 +85,7 @@ pub choice_idle : (k : KernelState) (cpu : ℕ) → (choice k cpu ≡ None) ↔ 
 unfolding choice
 choice_idle k cpu = (λ h. foremost_none (candidates k cpu) h, λ h. ap foremost h)
 
--- one that another does not go before
+-- a candidate that another does not go before
 not_before : (c d : Candidate) → not (goes_before d c) ≡ true → (d.priority < c.priority) ⊎ ((d.priority ≡ c.priority) × (c.stamp ≤ d.stamp))
 not_before c d h = by_priority (nat_lt d.priority c.priority) refl
   where

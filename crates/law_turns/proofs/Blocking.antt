@@ -1,4 +1,4 @@
--- Who is blocked waits at its semaphore, whatever is done: an answer for each course of a deed.
+-- A blocked context waits at its semaphore, whatever is done: an answer for each course of a deed.
 use Rattle.std.proofs.Common.{◌≡◌, ℕ, arith, [], ◌∷◌, ◌++◌, List, length, refl, ap, ◌∙◌, sym, subst, inl, inr}
 use Rattle.std.specs.Prelude.{◌≢◌, ◌==◌, ◌||◌, eqb, Bool, true, false, if◌then◌else◌, slice_get, Option, Some, None, IsSome, is_some, option_map, Result, Ok, Err}
 use Rattle.nova_objects.specs.declared.object.EcKind.TheVariants.{Local, Global, Vcpu}
@@ -39,9 +39,9 @@ use Rattle.law_forest.specs.Effects.{all_edited, applied, edits_by, effect, join
 use Rattle.law_turns.proofs.Courses.{Courses, MayCome, deed_course}
 use Rattle.law_turns.proofs.TablesKept.{kinds_at}
 
--- ONE IS SET
+-- A CONTEXT IS SET
 
--- it waits where its new state says, and everyone else where it did
+-- it waits where its new state says, and all others where they did
 record Settles (cs : Contexts) (all new : Semaphores) (e : ℕ) (y : EcState) : Type 0 where
   there : IsSome (ec_in cs e)
   others : OthersWaitAsBefore all e new
@@ -73,7 +73,7 @@ settled cs all new e y s h = record {
     others : (f : ℕ) → f ≢ e → state_in (with_ec cs e y) f ≡ state_in cs f
     others f other = ap state_at (entry_other cs e f y other)
 
--- one that isn't blocked waits nowhere
+-- a context that isn't blocked waits nowhere
 waits_nowhere : (cs : Contexts) (all : Semaphores) (e : ℕ) → is_blocked (state_in cs e) ≡ false → AreBlocked cs all → IsFree all e
 waits_nowhere cs all e unblocked h sm = by_test (waits all sm e) refl
   where
@@ -115,7 +115,7 @@ same_waits cs all new same sound h = record {
 
 -- A SEMAPHORE
 
--- one waits at it from now on
+-- a context waits at it from now on
 blocks : (cs : Contexts) (all : Semaphores) (sm e : ℕ) (y : EcState) → is_some (ec_in cs e) ≡ true → is_blocked (state_in cs e) ≡ false → y.state ≡ Blocked sm →
     IsSome (semaphore_at all sm) → answer_of (semaphore all sm) ≡ down.Blocked → AreBlocked cs all → AreBlocked (with_ec cs e y) (downed all sm e)
 blocks cs all sm e y there before now at answers h =
@@ -136,7 +136,7 @@ downs cs all sm e y there before now answers h =
     same_waits (with_ec cs e y) all (downed all sm e) (only_the_blocked_comes.done all sm e answers)
     (each_waits_alone.down all sm e (waits_nowhere cs all e before h) h.sound) (goes_on cs all e y there before now h)
 
--- nobody is woken where nobody waits
+-- none is woken where none waits
 pub nobody_waits : (count : ℕ) (ecs : List ℕ) → woken_of count ecs ≡ Ok None → ecs ≡ []
 nobody_waits count [] is = refl
 nobody_waits count (ec ∷ ecs) is = absurd (cc)
@@ -156,7 +156,7 @@ wakes_none cs all sm wakes h =
     let s = semaphore all sm in
     same_waits cs all (upped all sm) (only_the_woken_goes.nobody all sm (none_waits s.count s.waiting wakes)) (each_waits_alone.up all sm h.sound) h
 
--- who is woken is the first that waits
+-- the woken context is the first that waits
 pub first_waits : (count first : ℕ) (ecs : List ℕ) → woken_of count ecs ≡ Ok (Some first) → (rest : List ℕ) × (ecs ≡ first ∷ rest)
 first_waits count first [] is = absurd (by_test (count == greatest) is)
   where
@@ -180,7 +180,7 @@ first_woken k ec sm first is =
     let s = semaphore k.semaphores sm in
     let asks : Asks k ec (Ups sm (Some first)) = subst (Asks k ec) is (deed_asks k ec) in first_waits s.count first s.waiting asks.1
 
--- one is woken, and goes on
+-- a context is woken, and goes on
 pub wakes : (cs : Contexts) (all : Semaphores) (sm w : ℕ) → woken (semaphore all sm) ≡ Ok (Some w) → AreBlocked cs all →
     AreBlocked (with_ec cs w (answered (ec_of cs w) Success None)) (upped all sm)
 wakes cs all sm w is h =
@@ -206,7 +206,7 @@ leaves cs all sm w is h =
       sound = only_the_late_goes.sound all sm w h.sound;
     }) h
 
--- ONE JOINS
+-- A CONTEXT JOINS
 
 joins : (cs : Contexts) (o : Option EcState) (all : Semaphores) (count : Option ℕ) → is_blocked (state_at o) ≡ false → AreBlocked cs all →
     AreBlocked (cs ++ o ∷ []) (all ++ option_map idle_semaphore count ∷ [])
@@ -254,7 +254,7 @@ begins_free : (items : Bool) → is_blocked (Some (if items then Granting None e
 begins_free true = refl
 begins_free false = refl
 
--- one goes on to wait for a handler, and the handler goes on
+-- a context goes on to wait for a handler, and the handler goes on
 sends : (cs : Contexts) (all : Semaphores) (ec h : ℕ) (w : EcState) → IsActor cs ec → IsReached cs ec h → is_blocked (Some w.state) ≡ false → AreBlocked cs all →
     AreBlocked (with_ec (with_ec cs ec (record (ec_of cs ec) { state = Calling h })) h w) all
 sends cs all ec h w actor reached now are =
@@ -283,7 +283,7 @@ replies is_local cs all ec caller mark m actor keeps served are =
 abbrev Settled : KernelState → Type 0
 Settled k = AreBlocked k.contexts k.semaphores
 
--- a state to which one comes by itself is none in which one waits
+-- a state to which a context comes by itself is none in which it waits
 free_state : (k : KernelState) (ec : ℕ) (d : Deed) (s : State) → MayCome k ec d s → is_blocked (Some s) ≡ false
 free_state k ec d (Blocked sm) may = absurd may
 free_state k ec d other may = refl

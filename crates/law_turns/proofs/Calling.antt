@@ -124,7 +124,7 @@ pub called_by_threads : (s : Scenario) (turns : List ℕ) (handler caller : ℕ)
     is_thread (run (boot s) turns) caller ≡ true
 called_by_threads s turns handler caller keeps = (boot_run_fits s turns).guests.callers handler caller keeps
 
--- a handler keeps who waits for it, and no virtual CPU came by a call
+-- a handler keeps the context that waits for it, and no virtual CPU came by a call
 exit_awaited : (k : KernelState) (g handler : ℕ) → TablesFit k → IsOf k.objects is_vcpu g → state_in k.contexts g ≡ Some (Calling handler) →
     caller_in k.contexts handler ≡ Some (g, Exit)
 exit_awaited k g handler fits virtual waits = let known = (fits.served.linked g handler).known waits in by_mark known.0 known.1

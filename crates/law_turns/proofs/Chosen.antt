@@ -1,4 +1,4 @@
--- Who is chosen acts, and what acts does something.
+-- The chosen context acts, and what acts does something.
 use Rattle.std.proofs.Common.{◌≡◌, ℕ, ◌+◌, List, [], ◌∷◌, refl, ap, ◌∙◌, sym, subst}
 use Rattle.std.specs.Prelude.{Bool, true, false, not, ◌&&◌, ◌==◌, ◌≢◌, cond, Option, Some, None, IfSome, IsSome, option_map, option_and_then, if◌then◌else◌, Result, Ok, Err}
 use Rattle.std.specs.List.{AllByRecursion, find}
@@ -40,7 +40,7 @@ use Rattle.law_turns.specs.Links.{IsWell, handles_items}
 use Rattle.law_turns.proofs.Rows.{makes_hold, named_holds, unless_holds, create_pd_holds}
 use Rattle.law_forest.proofs.Walk.{Holds, IfDone, asking_holds, delivered_holds, exits_holds, ready_holds, sm_ctrl_holds}
 
--- WHO IS CHOSEN ACTS
+-- THE CHOSEN CONTEXT ACTS
 
 abbrev pub Acts : KernelState → Candidate → Type 0
 Acts k c = acts k.contexts c.actor ≡ true
@@ -186,7 +186,7 @@ deed_does k ec is_local does well = by_entry (ec_in k.contexts ec) refl does wel
 something : (d : Deed) → Does d → d ≢ Rests
 something d does is = let rests = ap is_rest is in absurd (cc)
 
--- who is chosen does something
+-- the chosen context does something
 pub chosen_does : (k : KernelState) (cpu : ℕ) (is_local : ℕ → Bool) → ((e : ℕ) → IsWell (is_local e) (ec_in k.contexts e)) → IfSome (choice k cpu) (λ c. deed k c.actor ≢ Rests)
 chosen_does k cpu is_local well = by_choice (choice k cpu) (choice_acts k cpu)
   where

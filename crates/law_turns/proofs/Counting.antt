@@ -50,7 +50,7 @@ at_itself [] ec t there = absurd (cc)
 at_itself (x ∷ ts) zero t there = refl
 at_itself (x ∷ ts) (suc ec) t there = at_itself ts ec t there
 
--- how far one is after a deed
+-- how far a context is after a deed
 abbrev pub now_at : KernelState → ℕ → Deed → ℕ → Transfer
 now_at k ec d e = at (applied k (effect k ec d)).transfers e
 
@@ -65,7 +65,7 @@ apart_stays k ec e (Skips reason place cursor) apart = absurd cc
 apart_stays k ec e (Finishes item end words after) apart = absurd cc
 apart_stays k ec e other apart = refl
 
--- one that is neither a part nor an end leaves each
+-- a deed that is neither a part nor an end leaves each
 pub leaves : (k : KernelState) (ec e : ℕ) (d : Deed) → is_of_item d ≡ false → now_at k ec d e ≡ at k.transfers e
 leaves k ec e d apart = now_is k ec d e ∙ apart_stays k ec e d apart
 

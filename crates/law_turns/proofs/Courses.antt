@@ -28,7 +28,7 @@ use Rattle.law_turns.proofs.Serving.{IsActor, IsReached, exit_reaches, exit_wait
 use Rattle.law_turns.proofs.Setting.{set_length}
 use Rattle.law_turns.specs.Links.{IsCallerOf}
 
--- one is the same as before, but for its recall, and what it is about to do; and for its registers where it gives no items then
+-- a context is the same as before, but for its recall, and what it is about to do; and for its registers where it gives no items then
 pub record IsSelf (x y : EcState) : Type 0 where
   pub id : y.id ≡ x.id
   pub cpu : y.cpu ≡ x.cpu
@@ -54,7 +54,7 @@ pub record IsOpening (d : Deed) (domain : ℕ) : Type 0 where
   pub target : ℕ
   pub deed : d ≡ Opens target domain
 
--- the states to which one that acts comes by itself
+-- the states to which a context that acts comes by itself
 abbrev pub MayCome : KernelState → ℕ → Deed → State → Type 0
 MayCome k ec d Ready = Unit {0}
 MayCome k ec d Dead = Unit {0}
@@ -75,7 +75,7 @@ pub record Courses (k : KernelState) (ec : ℕ) (d : Deed) (P : Contexts → Sem
   pub rests : IsTo k ec d (context k ec).state → P k.contexts k.semaphores
   -- it does an instruction
   pub steps : (regs : Registers) → d ≡ Steps → P (with_ec k.contexts ec (record (context k ec) { regs = regs })) k.semaphores
-  -- one stays in its state, at any time
+  -- a context stays in its state, at any time
   pub stays : (cs : Contexts) (all : Semaphores) (w : ℕ) (x y : EcState) → ec_in cs w ≡ Some x → IsSelf x y → y.state ≡ x.state → P cs all → P (with_ec cs w y) all
   -- it comes to a state by itself
   pub goes : (y : EcState) → IsSelf (context k ec) y → IsTo k ec d y.state → MayCome k ec d y.state → P (with_ec k.contexts ec y) k.semaphores
@@ -87,7 +87,7 @@ pub record Courses (k : KernelState) (ec : ℕ) (d : Deed) (P : Contexts → Sem
   -- it parks, and its caller goes on
   pub replies : (caller : ℕ) (its : Mark) (m : List ℕ) → IsTo k ec d Parked → IsCallerOf k ec caller its →
       let one = with_ec k.contexts ec (parked (context k ec)) in P (with_ec one caller (resumed (ec_of one caller) its m)) k.semaphores
-  -- an up that wakes nobody, or one; a down; one that waits
+  -- an up that wakes none, or one; a down; a down that waits
   pub ups : (sm : ℕ) → IsTo k ec d Ready → woken (semaphore k.semaphores sm) ≡ Ok None → P (with_ec k.contexts ec (answered (context k ec) Success None)) (upped k.semaphores sm)
   pub wakes : (sm w : ℕ) → IsTo k ec d Ready → woken (semaphore k.semaphores sm) ≡ Ok (Some w) →
       let one = with_ec k.contexts ec (answered (context k ec) Success None) in P (with_ec one w (answered (ec_of one w) Success None)) (upped k.semaphores sm)

@@ -79,7 +79,7 @@ skips (Finishes item (Skipped skip.Window) words after) tells part = absurd (ome
 skips (Replies caller mark true) tells part = absurd cc
 skips other tells part = absurd cc
 
--- who is chosen has an entry
+-- the chosen context has an entry
 has_entry : (s : Scenario) (turns : List ℕ) (cpu : ℕ) (c : Candidate) → next_to_act (run (boot s) turns) cpu ≡ Some c → IsSome (transfer_at (run (boot s) turns) c.actor)
 has_entry s turns cpu c chosen =
     let k = run (boot s) turns in

@@ -1,4 +1,4 @@
--- Who has a deadline is blocked at its semaphore, and of its processor: kept by each deed, and by what comes by itself.
+-- A context that has a deadline is blocked at its semaphore, and of its processor: kept by each deed, and by what comes by itself.
 use Rattle.std.proofs.Common.{◌≡◌, ℕ, List, [], ◌∷◌, ◌++◌, length, refl, sym, ap, ◌∙◌, subst, inl, inr}
 use Rattle.std.specs.Prelude.{◌≢◌, true, IsSome, map, is_some, slice_get, slice_set, zero, suc, Option, Some, None, Ok, Err, Result, option_map, ◌+◌}
 use Rattle.nova_range.specs.declared.status.Status.TheVariants.{Success}
@@ -72,7 +72,7 @@ record Changes (k : KernelState) (cs : Contexts) (all : Semaphores) : Type 0 whe
   tags : map tag cs ≡ map tag k.contexts
   blocked : AreBlocked cs all
 
--- who still waits is blocked still
+-- a context that still waits is blocked still
 still : (k : KernelState) (cs : Contexts) (all : Semaphores) (n : ℕ) (d : Deadline) → Changes k cs all → IsAwaiting k.contexts n d → waits all d.sm n ≡ true → IsAwaiting cs n d
 still k cs all n d new was is = record { blocked = new.blocked.blocked d.sm n is; processor = cpu_same k.contexts cs n new.tags ∙ was.processor }
 
@@ -86,7 +86,7 @@ others_still : (k : KernelState) (cs : Contexts) (all : Semaphores) (ec n : ℕ)
 others_still k cs all ec n d new blocked late same other is =
     let was = late n d is in still k cs all n d new was (same d.sm n other ∙ blocked.waiting d.sm n was.blocked)
 
--- one is cleared
+-- a deadline is cleared
 pub cleared : (ds : List (Option Deadline)) (e n : ℕ) (d : Deadline) → entry (slice_get (slice_set ds e None) n) ≡ Some d → (n ≢ e) × (entry (slice_get ds n) ≡ Some d)
 cleared [] e n d is = absurd cc
 cleared (x ∷ ds) zero zero d is = absurd cc

@@ -49,7 +49,7 @@ use Rattle.law_turns.proofs.Virtual.{among_of, guests_of}
 
 -- ONE OF A TABLE
 
--- it waits for nobody, or for one that it may wait for, or stays in its state
+-- it waits for none, or for a handler that it may wait for, or stays in its state
 free_on : (cs : Contexts) (e : ℕ) (y : EcState) → is_some (ec_in cs e) ≡ true → y.cpu ≡ (ec_of cs e).cpu → edge_of y.state ≡ None → AreEdges cs → AreEdges (with_ec cs e y)
 free_on cs e y there cpu none sound = edges_set cs e (ec_of cs e) y None sound (of_there cs e there) cpu none tt
 
@@ -80,7 +80,7 @@ replied_edges k ec caller its m actor keeps fits sound =
     free_on one caller (resumed (ec_of one caller) its m) (set_there k.contexts ec _ caller (caller_there k ec caller its actor keeps fits.served)) on.cpu (ap edge_of on.ready)
     (free_on k.contexts ec _ (ap is_some actor.there) refl refl sound)
 
--- one waits for a handler that takes its message, and the handler goes on
+-- a context waits for a handler that takes its message, and the handler goes on
 sent_edges : (k : KernelState) (ec handler : ℕ) (its : Mark) (ip identifier : ℕ) (items : Bool) → IsActor k.contexts ec → IsReached k.contexts ec handler → AreEdges k.contexts →
     let one = with_ec k.contexts ec (record (context k ec) { state = Calling handler }) in
     AreEdges (with_ec one handler (serving (ec_of one handler) ec its ip identifier items))

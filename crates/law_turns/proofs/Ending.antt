@@ -85,7 +85,7 @@ ends (Finishes item (Given children) words after) tells = record { item = item; 
 ends (Replies caller mark true) tells = absurd cc
 ends other tells = absurd cc
 
--- of who is chosen
+-- of the chosen context
 chosen_ends : (s : Scenario) (turns : List ℕ) (cpu : ℕ) (c : Candidate) → (sign_of (deed (run (boot s) turns) c.actor)).0 ≡ Ended →
     IsEndOfItem (run (boot s) turns) (trace (boot s) turns) (event_of cpu c (deed (run (boot s) turns) c.actor))
 chosen_ends s turns cpu c tells =

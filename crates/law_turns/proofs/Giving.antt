@@ -1,4 +1,4 @@
--- Whoever gives has a range and a protection domain to give it to, and whoever doesn't is at the beginning.
+-- A context that gives has a range and a protection domain to give it to, and a context that doesn't is at the beginning.
 use Rattle.nova_model.specs.Sources.{Source, with_source}
 use Rattle.law_forest.proofs.Boots.{sources_keep}
 use Rattle.law_forest.proofs.Doing.{set_at}
@@ -44,7 +44,7 @@ use Rattle.law_turns.proofs.Referring.{Asks, deed_asks}
 use Rattle.law_turns.proofs.Serving.{IsActor, actor_of, awaited}
 use Rattle.law_turns.proofs.Setting.{get_kept, more_at}
 
--- WHO GIVES AND WHO DOESN'T
+-- WHICH CONTEXTS GIVE AND WHICH DON'T
 
 -- of an execution context in this state, with these registers and this caller, and how far it is
 abbrev pub IsFor : List Object → State → Registers → Option (ℕ × Mark) → Transfer → Type 0
@@ -63,7 +63,7 @@ AreFor os cs ts = (e : ℕ) → IsForEntry os (ec_in cs e) (transfer_in (entry (
 abbrev pub Sound : KernelState → Type 0
 Sound k = AreFor k.objects k.contexts k.transfers
 
--- one that doesn't give is at the beginning, and that is all there is to say of it
+-- a context that doesn't give is at the beginning, and that is all there is to say of it
 at_rest : (os : List Object) (s : State) (r : Registers) (c : Option (ℕ × Mark)) (t : Transfer) → is_giving s ≡ false → IsFor os s r c t → t ≡ no_transfer
 at_rest os (Granting new) r c t rests h = absurd (cc)
 at_rest os Replying r c t rests h = absurd (cc)
@@ -78,7 +78,7 @@ pub entry_rests : (os : List Object) (o : Option EcState) (t : Transfer) → is_
 entry_rests os None t rests h = h
 entry_rests os (Some x) t rests h = at_rest os x.state x.regs x.caller t rests h
 
--- one that gives may be anywhere with it
+-- a context that gives may be anywhere with it
 anywhere : (os : List Object) (s : State) (r : Registers) (c : Option (ℕ × Mark)) (t u : Transfer) → is_giving s ≡ true → IsFor os s r c t → IsFor os s r c u
 anywhere os (Granting (Some domain)) r c t u gives h = h
 anywhere os (Granting None) r c t u gives h = h
@@ -121,7 +121,7 @@ joins_for os cs x ts t new none h f =
     (more_at (λ y. IsForEntry os y (transfer_in (entry (slice_get ts f)))) cs x f (h f) (λ first. new _ first))
     (λ first. subst (IsForEntry os (ec_in (cs ++ x ∷ []) f)) (sym none) first)
 
--- one that doesn't give, and doesn't then
+-- a context that doesn't give, and doesn't then
 rests_at : (os : List Object) (cs : Contexts) (ts : List (Option Transfer)) (e : ℕ) (x : EcState) → is_giving (ec_of cs e).state ≡ false → is_giving x.state ≡ false →
     AreFor os cs ts → AreFor os (with_ec cs e x) ts
 rests_at os cs ts e x rests still h = set_for os cs ts e x (of_rest os x.state x.regs x.caller _ still (entry_rests os (ec_in cs e) _ rests (h e))) h
@@ -145,12 +145,12 @@ parked_quiet (Some x) is = by_state x.state is
     by_state Parked parks = refl
     by_state other parks = absurd cc
 
--- whom it served goes on, and gives nothing
+-- the caller that it served goes on, and gives nothing
 pub resumed_quiet : (x : EcState) (mark : Mark) (m : List ℕ) → is_giving (resumed x mark m).state ≡ false
 resumed_quiet x mark.Call m = refl
 resumed_quiet x mark.Exit m = refl
 
--- one in its state
+-- a context in its state
 same_for : (os : List Object) (x y : EcState) (t : Transfer) → IsSelf x y → y.state ≡ x.state → IsFor os x.state x.regs x.caller t → IsFor os y.state y.regs y.caller t
 same_for os x y t self same h = by_test (is_giving y.state) refl
   where
@@ -239,7 +239,7 @@ none_to_give k ec none h = by_entry (ec_in k.contexts ec) refl (h ec)
             absurd (by_caller x.caller for (ap (given_to k ec (transfer k ec).item) (sym (ap (λ (y : Option EcState). (context_in y).caller) is)) ∙ nothing))
         by_state other at for nothing = for
 
--- one that does something else is at the beginning
+-- a context that does something else is at the beginning
 pub quiet_own : (k : KernelState) (ec : ℕ) (d : Deed) → is_of_item d ≡ false → Wants k ec d → Sound k → transfer k ec ≡ no_transfer
 quiet_own k ec Rests apart wants h = none_to_give k ec wants h
 quiet_own k ec (Gives child cursor) apart wants h = absurd cc
@@ -247,7 +247,7 @@ quiet_own k ec (Skips reason place cursor) apart wants h = absurd cc
 quiet_own k ec (Finishes item end words after) apart wants h = absurd cc
 quiet_own k ec other apart wants h = entry_rests k.objects (ec_in k.contexts ec) (transfer k ec) (wants_quiet k ec other refl wants) (h ec)
 
--- and so is one that gives no more
+-- and so is a context that gives no more
 own_rests : (k : KernelState) (ec : ℕ) (d : Deed) → Wants k ec d → Sound k → is_giving (actor_after (context k ec) d).state ≡ false → at (transfers_by k ec d) ec ≡ no_transfer
 own_rests k ec (Gives child cursor) wants h quiet = absurd cc
 own_rests k ec (Skips reason place cursor) wants h quiet = absurd cc
@@ -335,11 +335,11 @@ applied_for k ec d actor asks wants fits h =
     joined_for (joined k.objects (option_map object_of (made_by d))) (length k.objects) _ (transfers_by k ec d) (made_by d)
     (deed_course k ec (λ cs all. AreFor (joined k.objects (option_map object_of (made_by d))) cs (transfers_by k ec d)) d actor asks (for_courses k ec d actor wants fits h))
 
--- whom each serves
+-- the caller that each serves
 pub serves_in : (k : KernelState) → TablesFit k → Serves k.contexts
 serves_in k fits = serves_of (is_local_thread k) k.contexts fits.served
 
--- one whose wait ends gives nothing
+-- a context whose wait ends gives nothing
 passing_for : (k : KernelState) (p : Passing) → IsEnding k.contexts (passing_ends k p) → Sound k → Sound (applied k (passing_effect k p))
 passing_for k p ending h =
     passing_contexts (λ cs. AreFor k.objects cs k.transfers) k.contexts (passing_ends k p) ending h

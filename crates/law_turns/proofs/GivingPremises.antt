@@ -71,7 +71,7 @@ abbrev pub is_apart : Deed → Bool
 is_apart Rests = false
 is_apart d = not (is_of_item d)
 
--- is of one that doesn't give
+-- is of a context that doesn't give
 pub wants_quiet : (k : KernelState) (ec : ℕ) (d : Deed) → is_apart d ≡ true → Wants k ec d → is_giving (context k ec).state ≡ false
 wants_quiet k ec Rests apart wants = absurd cc
 wants_quiet k ec (Gives child cursor) apart wants = absurd cc
@@ -124,7 +124,7 @@ first_range : (r : Registers) (target pd : ℕ) (first : Option (Range × Rights
 first_range r target pd None h is = absurd (cc)
 first_range r target pd (Some range) h is = h
 
--- a call is sent to one that is parked
+-- a call is sent to a handler that is parked
 admits_parked : (k : KernelState) (ec handler : ℕ) (flag : Bool) → admitted k.contexts ec handler flag ≡ Send → state_in k.contexts handler ≡ Some Parked
 admits_parked k ec handler flag is = ((call_sent k.contexts ec handler flag).0 is).1
 

@@ -25,7 +25,7 @@ use Rattle.law_forest.proofs.Walk.{IfDone}
 use Rattle.law_turns.specs.Asked.{HoldsAt, IsHeldAt, IsRevokedAt}
 use Rattle.law_turns.specs.Tables.{IsOf}
 
--- ONE THAT COVERS
+-- A DERIVATION THAT COVERS
 
 pub has_from : (r : Range) (place : ℕ) → has_place r place ≡ true → HasPlace r place
 has_from r place h =

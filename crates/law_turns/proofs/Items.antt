@@ -1,4 +1,4 @@
--- Whoever gives items is at one of them: what is kept of it where tables change.
+-- A context that gives items is at one of them: what is kept of it where tables change.
 use Rattle.std.proofs.Common.{◌≡◌, ◌<◌, ℕ, List, [], ◌∷◌, ◌++◌, refl, ap, ◌∙◌, sym, subst}
 use Rattle.std.specs.Prelude.{true, false, slice_set, Option, Some, None, option_map}
 use Rattle.nova_objects.specs.declared.object.EcKind.{EcKind}
@@ -118,7 +118,7 @@ new_quiet n (new.Sc ec cpu priority quantum) ms e t = tt
 new_quiet n (new.Pt ec mtd ip) ms e t = tt
 new_quiet n (new.Sm count) ms e t = tt
 
--- WHO WRITES WHERE
+-- WHICH CONTEXT WRITES WHERE
 
 pub context_state : (cs : Contexts) (e : ℕ) (s : State) → state_in cs e ≡ Some s → (ec_of cs e).state ≡ s
 context_state cs e s is = by_entry (ec_in cs e) is
@@ -130,7 +130,7 @@ context_state cs e s is = by_entry (ec_in cs e) is
 pub quiet_replies : (k : KernelState) (ec : ℕ) → is_giving (context k ec).state ≡ false → state_in k.contexts ec ≡ Some Replying → ⊥
 quiet_replies k ec quiet is = let gives = ap is_giving (context_state k.contexts ec Replying is) in absurd (cc)
 
--- one that acts and gives nothing, one that is parked, and one that waits for such a handler
+-- a context that acts and gives nothing, a parked context, and a context that waits for such a handler
 pub own_none : (k : KernelState) (ec : ℕ) → acts k.contexts ec ≡ true → Serves k.contexts → is_giving (context k ec).state ≡ false → NoSource k.contexts ec
 own_none k ec able serves quiet = actor_none k.contexts ec able serves (quiet_replies k ec quiet)
 
@@ -144,7 +144,7 @@ waiting_none cs a w serves waits not_taking =
     let same : a ≡ e = cc in
     not_taking (subst (λ (n : ℕ). state_in cs n ≡ Some (Granting None)) (sym same) taking)))
 
--- who is told of an item
+-- the context that is told of an item
 abbrev told_in : Option ItemWords → Option ℕ
 told_in None = None
 told_in (Some w) = Some w.ec

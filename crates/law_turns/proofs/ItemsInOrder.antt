@@ -1,4 +1,4 @@
--- A turn leaves whoever gives at its item or brings it to the next one, or it gives no more after the last one.
+-- A turn leaves a context that gives at its item or brings it to the next, or it gives no more after the last one.
 use Rattle.law_forest.proofs.Doing.{set_at}
 use Rattle.law_turns.specs.Links.{state_at as state_found}
 use Rattle.law_turns.proofs.Passing.{passing_ending, IsEnding, passing_stays}

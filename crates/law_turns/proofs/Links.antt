@@ -1,4 +1,4 @@
--- Callers and those who serve them, where one of a table of execution contexts changes and where one joins.
+-- Callers and the contexts that serve them, where an execution context of a table changes and where one joins.
 use Rattle.std.proofs.Common.{◌≡◌, ℕ, [], ◌∷◌, ◌++◌, length, refl, ap, ◌∙◌, sym, subst, inl, inr, arith}
 use Rattle.std.specs.Prelude.{◌≢◌, ◌⊎◌, ◌==◌, Bool, true, false, Option, Some, None, IsSome}
 use Rattle.nova_model.specs.Calls.{is_parked}
@@ -18,7 +18,7 @@ place x y = by_test (x == y) refl
     by_test true is = inl (grind (arith, is))
     by_test false is = inr (λ same. absurd (grind (arith, is, same)))
 
--- ONE IS SET
+-- A CONTEXT IS SET
 
 abbrev LinkedBut : (ℕ → ℕ → Type 0) → Contexts → Type 0
 LinkedBut Odd cs = (c h : ℕ) → (Odd c h → ⊥) → IsLinked c (ec_in cs c) h (ec_in cs h)
@@ -48,9 +48,9 @@ well_set is_local cs e y there well new h = by_place (place h e)
     by_place (inl a) = rw (a, entry_itself cs e y there) new
     by_place (inr a) = rw (entry_other cs e h y a) (well h)
 
--- ONE GOES ON, AND KEEPS ITS CALLER
+-- A CONTEXT GOES ON, AND KEEPS ITS CALLER
 
--- one that takes the items of a call
+-- a context that takes the items of a call
 abbrev pub is_taking : Option State → Bool
 is_taking (Some (Granting None)) = true
 is_taking other = false
@@ -134,9 +134,9 @@ served_on is_local cs e x y was on served = record {
   well = well_set is_local cs e y (rw was refl) served.well (moved_well (is_local e) cs None x y on (well_at is_local cs e x was served));
 }
 
--- ONE TAKES A CALLER, OR LETS IT GO
+-- A HANDLER TAKES A CALLER, OR LETS IT GO
 
--- the one whom it serves before or after is `a`
+-- the caller that it serves before or after is `a`
 pub record Serves (cs : Contexts) (a h : ℕ) (x y : EcState) : Type 0 where
   pub apart : a ≢ h
   pub cpu : y.cpu ≡ x.cpu
@@ -199,7 +199,7 @@ served_exchange is_local cs c h x y z w e served =
           (well_set is_local cs c y (rw e.caller refl) served.well (moved_well (is_local c) cs (Some h) x y e.on (well_at is_local cs c x e.caller served))) e.well;
     }
 
--- ONE JOINS
+-- A CONTEXT JOINS
 
 pub more_other : (cs : Contexts) (o : Option EcState) (h : ℕ) → h ≢ length cs → ec_in (cs ++ o ∷ []) h ≡ ec_in cs h
 more_other cs o h other = ap entry (joined_other cs o h other)
@@ -211,7 +211,7 @@ pub past : (cs : Contexts) → ec_in cs (length cs) ≡ None
 past [] = refl
 past (c ∷ cs) = past cs
 
--- nobody's caller, and nobody's handler
+-- the caller of none, and the handler of none
 pub record IsNewborn (is_local : Bool) (o : Option EcState) : Type 0 where
   pub caller : caller_at o ≡ None
   pub calls : (h : ℕ) → state_at o ≢ Some (Calling h)

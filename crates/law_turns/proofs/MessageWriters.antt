@@ -43,7 +43,7 @@ Messages = List (Option (List ℕ))
 
 -- THE WORDS OF OTHERS
 
--- one that isn't written keeps its words, whatever object is made
+-- a context that isn't written to keeps its words, whatever object is made
 kept_words : (ms : Messages) (p : Option (ℕ × List ℕ)) (born : Option (Option (List ℕ))) (n : ℕ) (words : List ℕ) → option_map (λ w. w.0) p ≢ Some n →
     entry (slice_get ms n) ≡ Some words → entry (slice_get (joined (put ms p) born) n) ≡ Some words
 kept_words ms p born n words differs is = by_born born (by_words p differs)
@@ -83,7 +83,7 @@ number_same a b is = cc
 message_is : (k : KernelState) (n : ℕ) (words : List ℕ) → words_at k n ≡ Some words → message k n ≡ words
 message_is k n words is = ap message_in is
 
--- those of one that is there, where an effect writes them, whatever object is made
+-- the words of a context that is there, where an effect writes them, whatever object is made
 put_words : (ms : Messages) (n : ℕ) (m words : List ℕ) (born : Option (Option (List ℕ))) → entry (slice_get ms n) ≡ Some words →
     entry (slice_get (joined (put ms (Some (n, m))) born) n) ≡ Some m
 put_words ms n m words born is = by_born born
@@ -98,7 +98,7 @@ put_words ms n m words born is = by_born born
 same_store : (regs other : Registers) (s t : Store) → Went regs (Some s) ≡ Went other (Some t) → s ≡ t
 same_store regs other s t is = cc
 
--- an instruction without a store, or with one that isn't among the words
+-- an instruction without a store, or with a store that isn't among the words
 no_store : (k : KernelState) (ec : ℕ) (words : List ℕ) (o : Once) → instruction k ec ≡ o → ((regs : Registers) (s : Store) → o ≡ Went regs (Some s) → IsAmongWords k ec s → ⊥) →
     IsStepped k ec words words
 no_store k ec words o came none = Stays (λ regs s went among. none regs s (sym came ∙ went) among) refl

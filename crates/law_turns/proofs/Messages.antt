@@ -1,4 +1,4 @@
--- The message words from which items are given stay: who writes where, and what a deed shows of items.
+-- The message words from which items are given stay: which context writes where, and what a deed shows of items.
 use Rattle.std.proofs.Common.{◌≡◌, ◌<◌, ◌≤◌, ℕ, List, [], ◌∷◌, ◌++◌, refl, ap, ◌∙◌, subst, arith}
 use Rattle.std.specs.Prelude.{◌≢◌, Bool, true, false, if◌then◌else◌, slice_get, slice_set, Option, Some, None, option_map, Ok}
 use Rattle.std.proofs.lemmas.Bool.Decides.{nat_tests}
@@ -96,7 +96,7 @@ no_source cs w serves not_replying not_taken e x is of = by_state x.state refl x
         not_replying (subst (λ (n : ℕ). state_in cs n ≡ Some Replying) same (state_is Replying at))
     by_state other at c has from = absurd (cc)
 
--- one that acts and does not reply
+-- a context that acts and does not reply
 pub actor_none : (cs : Contexts) (a : ℕ) → acts cs a ≡ true → Serves cs → (state_in cs a ≡ Some Replying → ⊥) → NoSource cs a
 actor_none cs a able serves not_replying =
     no_source cs a serves not_replying (λ e waits taking.

@@ -101,7 +101,7 @@ found_passes p (x ∷ es) = by_test (p x) refl (found_passes p es)
 least_moment : (a b : Entry) → not (comes_before b a) ≡ true → a.moment ≤ b.moment
 least_moment a b h = grind arith
 
--- each is at most so far as the first
+-- each is at least as far as the first
 abbrev IsFar : ℕ → ℕ → Entry → Type 0
 IsFar now n e = n ≤ e.moment - now
 

@@ -1,4 +1,4 @@
--- Whom the event of a turn names.
+-- The contexts that the event of a turn names.
 use Rattle.nova_model.specs.Times.{next_moment}
 use Rattle.law_forest.specs.Effects.{Falls, Passing, Ticks}
 use Rattle.law_forest.specs.Turns.{is_passing, passing_event}
@@ -81,7 +81,7 @@ acts_for cs e who is able =
     let h = subst (IsFirst cs e) is (chase_first cs e) in
     record { edges = h.edges; met = h.met; able = able; first = λ n other less at. leaves_idle cs other (h.first n other less at) }
 
--- WHO IS CHOSEN
+-- WHICH CONTEXT IS CHOSEN
 
 candidate_chases : (k : KernelState) (cpu sc ec its priority quantum : ℕ) → IfSome (candidate_of k cpu sc (Sc ec its priority quantum)) (λ c. chase k.contexts ec ≡ c.actor)
 candidate_chases k cpu sc ec its priority quantum = by_test ((its == cpu) && acts k.contexts (actor k ec)) (budget_at k sc)
@@ -122,7 +122,7 @@ none_chosen k cpu = (
   λ h. let both = turning.none_chosen k cpu h in (ap (λ (o : Option Candidate). option_map (λ (c : Candidate). c.sc) o) both.0, both.1),
 )
 
--- what comes by itself names nobody who pays
+-- what comes by itself names none that pays
 pub passing_names : (k : KernelState) (cpu : ℕ) (e : Event) → is_passing e.kind ≡ true → answer_of (turn k cpu) ≡ Stepped e → NamesNobody cpu e
 passing_names k cpu e passing steps =
     of_events (λ (f : Event). is_passing f.kind ≡ true → NamesNobody cpu f) k cpu e steps (λ p comes state its. names_nobody p)

@@ -41,7 +41,7 @@ pub record Stands (k : KernelState) : Type 0 where
   pub sound : Sound k
   pub bound : Bound k
 
--- one whose wait ends gives nothing
+-- a context whose wait ends gives nothing
 passing_bound : (k : KernelState) (p : Passing) → IsEnding k.contexts (passing_ends k p) → Bound k → Bound (applied k (passing_effect k p))
 passing_bound k p ending h =
     passing_contexts (λ cs. AreBounded k.messages cs k.transfers) k.contexts (passing_ends k p) ending h

@@ -1,4 +1,4 @@
--- What the turn of the one who is chosen does to budgets and the next stamp.
+-- What the turn of the chosen candidate does to budgets and the next stamp.
 use Rattle.law_forest.proofs.Boots.{sources_keep}
 use Rattle.law_forest.specs.Turns.{is_passing, passing_event}
 use Rattle.std.proofs.Common.{◌≡◌, length, ℕ, zero, suc, ◌≤◌, ◌-◌, ◌+◌, List, [], ◌∷◌, ◌++◌, inl, inr, refl, sym, ap, ◌∙◌, subst, arith}
@@ -161,7 +161,7 @@ each_paid s turns n =
     let none = boot_each s n in
     omega (arith, run_each (boot s) turns n)
 
--- A NEW ONE BEGINS WITH ITS WHOLE QUANTUM
+-- A NEW SCHEDULING CONTEXT BEGINS WITH ITS WHOLE QUANTUM
 
 whole_quantum : (next : ℕ) (made : NewObject) (b : Budget) → budget_of next made ≡ Some b → b.left ≡ quantum_in (Some (object_of made))
 whole_quantum next (new.Sc ec cpu priority quantum) b is = sym (ap left_of is)
@@ -209,9 +209,9 @@ pub new_whole : (s : Scenario) (turns : List ℕ) (cpu n : ℕ) (b : Budget) →
     b.left ≡ quantum_in (slice_get (after (run (boot s) turns) cpu).objects n)
 new_whole s turns cpu n b = after_whole (run (boot s) turns) cpu n b (lengths (run (boot s) turns) (boot_run_fits s turns))
 
--- THE EVENT OF A TURN NAMES WHO PAYS
+-- THE EVENT OF A TURN NAMES WHAT PAYS
 
--- and a turn that nobody pays leaves all budgets
+-- and a turn that none pays leaves all budgets
 pub turn_free : (k : KernelState) (cpu : ℕ) (e : Event) → is_passing e.kind ≡ true → answer_of (turn k cpu) ≡ Stepped e → IsUnpaid k (after k cpu)
 turn_free k cpu e passing steps =
     of_events (λ (f : Event). is_passing f.kind ≡ true → IsUnpaid k (after k cpu)) k cpu e steps

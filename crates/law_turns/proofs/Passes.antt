@@ -76,7 +76,7 @@ passes_there (suc n) k most cpus h =
     (pass_there k 0 k.cpus most cpus (omega arith))
     (passes_there n (run k p) (most - length p) cpus (run_cpus k p ∙ h))
 
--- AT MOST SO MANY
+-- AT MOST `most` TURNS
 
 pass_within : (k : KernelState) (cpu count most : ℕ) → length (pass k cpu count most) ≤ most
 pass_within k cpu zero most = omega arith

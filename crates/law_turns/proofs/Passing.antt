@@ -1,4 +1,4 @@
--- What comes by itself: who goes on in such a turn was blocked, and that everyone else waits where it did.
+-- What comes by itself: the context that goes on in such a turn was blocked, and all others wait where they did.
 use Rattle.law_turns.proofs.Setting.{entry_itself, entry_other}
 use Rattle.law_turns.specs.Links.{state_at}
 use Rattle.law_turns.proofs.Links.{place}
@@ -37,7 +37,7 @@ IsEnding cs o = IfSome o (λ p. IsBlockedIn cs p.0)
 abbrev pub due_deadline : (k : KernelState) (cpu ec : ℕ) → IsPassing k cpu (Falls (due.Deadline ec)) → (d : Deadline) × (deadline_of k.times ec ≡ Some d)
 due_deadline k cpu ec is = let its = due_is k.times cpu (due.Deadline ec) is in (its.entry.deadline, its.entry.there)
 
--- and who has it waits in the queue of its semaphore
+-- and the context that has it waits in the queue of its semaphore
 pub late_waits : (k : KernelState) (cpu ec : ℕ) → IsPassing k cpu (Falls (due.Deadline ec)) → AreDeadlines k.contexts k.times.deadlines →
     state_in k.contexts ec ≡ Some (Blocked (deadline_sm (deadline_of k.times ec)))
 late_waits k cpu ec is late =
@@ -54,7 +54,7 @@ passing_ending k cpu (Falls (due.Alarm alarm)) is blocked late = by_up (alarm_up
 passing_ending k cpu (Falls (due.Deadline ec)) is blocked late = (deadline_sm (deadline_of k.times ec), late_waits k cpu ec is late)
 passing_ending k cpu Ticks is blocked late = tt
 
--- what holds of contexts as they are, and where one that was blocked is answered, holds after it
+-- what holds of contexts as they are, and where a context that was blocked is answered, holds after it
 pub passing_contexts : (P : Contexts → Type 0) (cs : Contexts) (o : Option (ℕ × Status)) → IsEnding cs o → P cs →
     ((w sm : ℕ) (status : Status) → state_in cs w ≡ Some (Blocked sm) → P (with_ec cs w (answered (ec_of cs w) status None))) → P (all_edited cs (ends_by o))
 passing_contexts P cs None is rests wakes = rests
@@ -98,7 +98,7 @@ passing_each cs (Some (w, status)) is e = elim (place e w) [
   | inr other ↦ Same (entry_other cs w e (answered (ec_of cs w) status None) other)
 ]
 
--- one that isn't blocked stays
+-- a context that isn't blocked stays
 pub passing_stays : (cs : Contexts) (o : Option (ℕ × Status)) → IsEnding cs o → (e : ℕ) → is_blocked (state_in cs e) ≡ false → ec_in (all_edited cs (ends_by o)) e ≡ ec_in cs e
 passing_stays cs o is e free = elim (passing_each cs o is e) [
   | Same same ↦ same

@@ -60,7 +60,7 @@ still_object k s ec n o (AddsOne made bound objects budgets next) is =
 
 -- A TURN
 
--- the turn of the one who is chosen: `between` is the state when its deed is done
+-- the turn of the chosen candidate: `between` is the state when its deed is done
 pub record IsTurn (k new : KernelState) (cpu : ℕ) (c : Candidate) : Type 0 where
   pub its : HasSchedule k cpu c
   pub between : KernelState
@@ -100,7 +100,7 @@ turn_is k cpu c chosen =
       clocks = refl;
     })
 
--- what a turn of a processor comes to, with its event: none, that of who acts, or that of what comes by itself
+-- what a turn of a processor comes to, with its event: none, that of the context that acts, or that of what comes by itself
 pub data Comes (k new : KernelState) (cpu : ℕ) (event : Option Event) : Type 0 where
   Idles : next_to_act k cpu ≡ None → new ≡ k → event ≡ None → Comes k new cpu event
   Takes : (c : Candidate) → next_to_act k cpu ≡ Some c → IsTurn k new cpu c → event ≡ Some (event_of cpu c (deed k c.actor)) → Comes k new cpu event

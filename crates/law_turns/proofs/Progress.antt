@@ -1,4 +1,4 @@
--- Items are given in order: what each deed leaves of words, and where whoever gives is then.
+-- Items are given in order: what each deed leaves of words, and where a context that gives is then.
 use Rattle.std.proofs.Common.{◌≡◌, ◌<◌, ℕ, ◌+◌, List, length, refl, ap, ◌∙◌, sym, subst, arith}
 use Rattle.std.specs.Prelude.{◌≢◌, Bool, true, false, nat_lt, if◌then◌else◌, slice_set, Option, Some, None, IfSome, option_map}
 use Rattle.std.proofs.lemmas.Bool.Decides.{nat_tests}
@@ -66,7 +66,7 @@ caller_none k ec caller mark able serves quiet has =
     waiting_none k.contexts ec caller serves (served_waits k ec caller mark able serves has)
     (λ taking. (let gives = ap is_giving (context_state k.contexts ec (Granting None) taking) in absurd (cc)))
 
--- nobody gives from where a deed writes
+-- no context gives from where a deed writes
 written_none : (k : KernelState) (ec : ℕ) (d : Deed) → Wants k ec d → Shows k ec d → acts k.contexts ec ≡ true → Serves k.contexts →
     IfSome (words_by k ec d) (λ w. NoSource k.contexts w.0)
 written_none k ec Steps wants shows able serves = stored_none k ec (store_of (instruction k ec)) (own_none k ec able serves wants)
@@ -91,7 +91,7 @@ pub applied_keeps : (k : KernelState) (ec : ℕ) (d : Deed) → Wants k ec d →
     Keeps k (applied k (effect k ec d)).messages
 applied_keeps k ec d wants shows able serves e g x is of = joined_words (words_after k ec d) (made_by d) g ∙ written_keeps k ec d wants shows able serves e g x is of
 
--- WHERE WHOEVER GIVES IS
+-- WHERE A CONTEXT THAT GIVES IS
 
 to_entry : (ms : List (Option (List ℕ))) (e : ℕ) (o : Option EcState) (t : Transfer) → Bounded ms e (context_in o).state (context_in o).caller t → BoundedEntry ms e o t
 to_entry ms e None t h = tt
@@ -181,7 +181,7 @@ reply_words k ec caller mark.Exit apart = refl
 
 -- A DEED
 
--- one that begins to give is at its first item
+-- a context that begins to give is at its first item
 first_item : (k : KernelState) (ec : ℕ) (d : Deed) → is_of_item d ≡ false → Wants k ec d → Sound k → (at (transfers_by k ec d) ec).item ≡ 0
 first_item k ec d apart wants sound = ap (λ (t : Transfer). t.item) (apart_stays k ec ec d apart ∙ quiet_own k ec d apart wants sound)
 

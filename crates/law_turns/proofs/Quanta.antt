@@ -57,7 +57,7 @@ more_within os bs next made fresh h = record {
   ];
 }
 
--- one that pays
+-- a budget that pays
 spent_within : (quantum next : ℕ) (b : Budget) → IsWithin quantum b → IsWithin quantum (budget_after (is_spent b) quantum next b)
 spent_within quantum next b h = by_test (is_spent b) refl
   where

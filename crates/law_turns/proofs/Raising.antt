@@ -1,4 +1,4 @@
--- The words of one whose exit is sent stay.
+-- The words of a context whose exit is sent stay.
 use Rattle.law_turns.proofs.TablesFit.{chosen_acts}
 use Rattle.law_forest.specs.Turns.{is_passing}
 use Rattle.std.proofs.Common.{refl, ◌≡◌, ℕ, List, ap, ◌∙◌, sym, subst}
@@ -19,7 +19,7 @@ use Rattle.law_turns.proofs.Awaiting.{not_parked}
 use Rattle.law_turns.proofs.GivingPremises.{Wants, deed_wants}
 use Rattle.law_turns.proofs.MessageWriters.{others_keep, passing_keeps}
 
--- who is chosen acts, and so the event names one that acts
+-- the chosen context acts, and so the event names a context that acts
 named_acts : (k : KernelState) (cpu : ℕ) (e : Event) → is_passing e.kind ≡ false → answer_of (turn k cpu) ≡ Stepped e → acts k.contexts e.ec ≡ true
 named_acts k cpu e other steps =
     of_event (λ (f : Event). acts k.contexts f.ec ≡ true) k cpu e other steps

@@ -61,7 +61,7 @@ pub record IsExitSent (k : KernelState) (ec handler ip : ℕ) (mtd : Mtd) : Type
   pub leads : slice_get k.objects portal ≡ Some (Pt handler mtd.0 ip)
   pub admits : exit_admitted k.contexts ec handler ≡ exit.Sends
 
--- who is told what came of an item, and what follows its end
+-- the context that is told what came of an item, and what follows its end
 abbrev pub TellsFor : KernelState → ℕ → Option ℕ → Type 0
 TellsFor k ec told = IfSome told (λ n. (n ≡ ec) ⊎ IsCallerOf k ec n came.Call)
 

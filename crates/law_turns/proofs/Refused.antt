@@ -151,7 +151,7 @@ charged_rest k ec cpu sc x =
       clocks = left.clocks;
     }
 
--- of the turn of who is chosen
+-- of the turn of the chosen context
 refusal_of : (k : KernelState) (cpu : ℕ) (c : Candidate) (d : Deed) (status : Status) (number : ℕ) → d ≡ Refuses number status → is_asking (context k c.actor).state ≡ true →
     after k cpu ≡ charged (with_context k c.actor (answered (context k c.actor) status None)) cpu c.sc → IsRefusal k cpu (event_of cpu c d)
 refusal_of k cpu c d status number is asks turns =

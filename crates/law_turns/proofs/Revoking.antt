@@ -53,14 +53,14 @@ use Rattle.law_turns.proofs.TablesKept.{contexts_length}
 
 -- IN A TABLE OF EXECUTION CONTEXTS
 
--- the revoke of an entry, where the protection domain of the number is this one
+-- the revoke of an entry, where the protection domain of the number is `pd`
 abbrev revoke_at : ℕ → Option EcState → Option Revocation
 revoke_at pd o = option_and_then (λ (x : EcState). revoke_by pd x.state) o
 
 abbrev among : List Object → Contexts → ℕ → Option Revocation
 among os cs e = revoke_at (pd_in (slice_get os e)) (ec_in cs e)
 
--- one that doesn't revoke
+-- a context that doesn't revoke
 abbrev is_revoking : State → Bool
 is_revoking (Revoking range own) = true
 is_revoking other = false
@@ -101,9 +101,9 @@ joins_quiet os cs e (Some made) as_many =
     (λ old. born_none (pd_in (slice_get all e)) (length os) made ∙ old)
     ∙ joined_same os (object_of made) cs e as_many
 
--- WHO ACTS
+-- WHICH CONTEXT ACTS
 
--- only one that takes a leaf away, or returns, revokes
+-- only a context that takes a leaf away, or returns, revokes
 abbrev Idle : KernelState → ℕ → Deed → Type 0
 Idle k ec (Removes leaf) = Unit {0}
 Idle k ec Returns = Unit {0}
@@ -131,7 +131,7 @@ own_none k ec quiet = entry_none (pd_of k ec) (context_at k ec) quiet
 
 -- A DEED
 
--- the revoke of one is that of its state
+-- the revoke of a context is that of its state
 revoke_is : (pd : ℕ) (o : Option EcState) → revoke_at pd o ≡ revoke_by pd (context_in o).state
 revoke_is pd None = refl
 revoke_is pd (Some x) = refl
@@ -271,7 +271,7 @@ all_run k ec able fits =
     many : length (done k ec (deed k ec)).contexts ≡ (length (done k ec (deed k ec)).contexts - length k.contexts) + length k.contexts
     many = let long = stays_long k ec (deed k ec) in omega (arith, long)
 
--- WHO BEGINS AND WHO RETURNS
+-- WHICH CONTEXT BEGINS AND WHICH RETURNS
 
 abbrev Told : KernelState → ℕ → Deed → Type 0
 Told k ec (Revokes range own) = call_of (context k ec).regs ≡ Ok (asks.Revoke range own)

@@ -51,7 +51,7 @@ pass_is k cpu (suc count) (suc most) last ends =
     by_test true is taken skipped = takes k cpu last most (pass (after k cpu) (cpu + 1) count most) (omega arith) is taken
     by_test false is taken skipped = skips k cpu last (suc most) (pass k (cpu + 1) count (suc most)) skipped
 
--- WHO IS LEFT OUT
+-- WHICH PROCESSORS ARE LEFT OUT
 
 none_below : (cpu : ℕ) (order : List ℕ) → AllByRecursion (λ c. cpu + 1 ≤ c) order → below cpu order ≡ []
 none_below cpu [] all = refl

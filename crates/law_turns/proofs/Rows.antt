@@ -62,7 +62,7 @@ pub record IsAdmitted (k : KernelState) (ec domain selector : ℕ) (flag : Bool)
   pub portal : named k domain is_pt call_right selector ≡ Ok pt
   pub admits : admitted k.contexts ec (handler_of k pt) flag ≡ comes
 
--- what holds of a call that is sent, and of one that helps
+-- what holds of a call that is sent, and of a caller that helps
 pub call_holds : (P : Deed → Type 0) (k : KernelState) (ec domain selector : ℕ) (flag : Bool) →
     ((pt : ℕ) → IsAdmitted k ec domain selector flag pt Send → P (Calls (handler_of k pt) (ip_of k pt) (identifier k pt) (has_items (message k ec)))) →
     ((pt : ℕ) → IsAdmitted k ec domain selector flag pt Help → P (Helps (handler_of k pt))) → IfDone P (call k ec domain selector flag)
@@ -84,7 +84,7 @@ call_holds P k ec domain selector flag sends helps = by_counts (has_counts (mess
     by_counts false counts = tt
     by_counts true counts = by_portal counts (named k domain is_pt call_right selector) refl
 
--- a reply goes to whom its maker serves, who came so
+-- a reply goes to the caller that its maker serves, which came so
 pub record IsReplying (k : KernelState) (ec caller : ℕ) (mark : Mark) : Type 0 where
   pub local : is_local_thread k ec ≡ true
   pub counts : has_counts (message k ec) ≡ true

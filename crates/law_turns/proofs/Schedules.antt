@@ -22,7 +22,7 @@ pub record AreAlone (os : List Object) (bs : List (Option Budget)) (next : ℕ) 
   pub one : (ec m n : ℕ) → IsOf os (schedules ec) m → IsOf os (schedules ec) n → m ≡ n
   pub schedulable : (ec n : ℕ) → IsOf os (schedules ec) n → IsOf os is_schedulable ec
 
--- an object of a kind, as one that is there
+-- an object of a kind, as an object that is there
 record IsAt (os : List Object) (is : Object → Bool) (n : ℕ) : Type 0 where
   object : Object
   at : slice_get os n ≡ Some object
@@ -38,7 +38,7 @@ of_kind os is n h = by_object (slice_get os n) refl h
 at_kind : (os : List Object) (is : Object → Bool) (n : ℕ) (o : Object) → slice_get os n ≡ Some o → is o ≡ true → IsOf os is n
 at_kind os is n o at kind = ap (option_map is) at ∙ ap (λ (b : Bool). Some b) kind
 
--- where one joins, what is of a kind was, or is it
+-- where an object joins, what is of a kind was, or is it
 data WasOf (os : List Object) (o : Object) (is : Object → Bool) (n : ℕ) : Type 0 where
   Was : IsOf os is n → WasOf os o is n
   Joins : n ≡ length os → is o ≡ true → WasOf os o is n

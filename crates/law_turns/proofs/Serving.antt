@@ -1,4 +1,4 @@
--- Callers stay with those who serve them, whatever becomes of one or two execution contexts.
+-- Callers stay with the contexts that serve them, whatever becomes of one or two execution contexts.
 use Rattle.std.proofs.Common.{◌≡◌, ℕ, zero, suc, List, [], ◌∷◌, refl, ap, ◌∙◌, sym, subst, inl, inr}
 use Rattle.std.specs.Prelude.{◌≢◌, Bool, true, false, if◌then◌else◌, Option, Some, None, IsSome, is_some, option_and_then}
 use Rattle.nova_range.specs.declared.status.Status.{Status}
@@ -20,9 +20,9 @@ use Rattle.law_turns.specs.Links.{AreServed, IsLinked, IsWell, caller_at, cpu_at
 use Rattle.law_turns.proofs.Links.{GoesOn, is_taking, place, served_exchange, served_on}
 use Rattle.law_turns.proofs.Setting.{entry_itself, entry_other}
 
--- ONE THAT ACTS
+-- A CONTEXT THAT ACTS
 
--- one that waits at a semaphore
+-- a context that waits at a semaphore
 abbrev pub is_blocked : Option State → Bool
 is_blocked (Some (Blocked sm)) = true
 is_blocked other = false
@@ -58,7 +58,7 @@ of_there cs n there = by_entry (ec_in cs n) there
     by_entry None h = absurd (cc)
     by_entry (Some x) h = refl
 
--- one in a state is there
+-- a context in a state is there
 pub state_there : (o : Option EcState) (s : State) → state_at o ≡ Some s → is_some o ≡ true
 state_there None s is = absurd (cc)
 state_there (Some x) s is = refl
@@ -86,7 +86,7 @@ actor_of cs ec does = record {
     by_blocked None h = refl
     by_blocked (Some x) h = unblocked_by x.state (option_and_then (state_in cs) (edge_of x.state)) h
 
--- it goes on in another state, in which it waits for this one at most
+-- it goes on in another state, in which it waits for `odd` at most
 goes : (cs : Contexts) (ec : ℕ) (odd : Option ℕ) (y : EcState) → IsActor cs ec → y.caller ≡ (ec_of cs ec).caller → y.cpu ≡ (ec_of cs ec).cpu →
     ((h : ℕ) → y.state ≡ Calling h → odd ≡ Some h) → is_parked (Some y.state) ≡ false → (handles_items (Some y.state) ≡ true → IsSome (ec_of cs ec).caller) →
     is_taking (Some y.state) ≡ false → GoesOn cs odd (ec_of cs ec) y
@@ -130,7 +130,7 @@ pub stays_on : (is_local : ℕ → Bool) (cs : Contexts) (e : ℕ) (y : EcState)
 stays_on is_local cs e y there caller cpu same served =
     served_on is_local cs e (ec_of cs e) y (of_there cs e there) (remains (is_local e) cs (ec_of cs e) y (well_of is_local cs e there served) caller cpu same) served
 
--- one that is blocked goes on
+-- a context that is blocked goes on
 pub ends_on : (is_local : ℕ → Bool) (cs : Contexts) (e sm : ℕ) (status : Status) → state_in cs e ≡ Some (Blocked sm) → AreServed is_local cs →
     AreServed is_local (with_ec cs e (answered (ec_of cs e) status None))
 ends_on is_local cs e sm status blocked served =
@@ -162,7 +162,7 @@ mark_in (Some p) = p.1
 
 -- A CALL
 
--- whom a call reaches
+-- the handler that a call reaches
 pub record IsReached (cs : Contexts) (ec h : ℕ) : Type 0 where
   pub may : IsNewEdge cs ec h
   pub parked : is_parked (state_in cs h) ≡ true
@@ -258,7 +258,7 @@ set_swap (c ∷ cs) zero (suc b) x y apart = refl
 set_swap (c ∷ cs) (suc a) zero x y apart = refl
 set_swap (c ∷ cs) (suc a) (suc b) x y apart = ap (λ (l : Contexts). c ∷ l) (set_swap cs a b x y (λ same. apart (ap suc same)))
 
--- the caller of one that acts waits for it
+-- the caller of a context that acts waits for it
 pub record IsAwaited (cs : Contexts) (ec caller : ℕ) : Type 0 where
   pub there : ec_in cs caller ≡ Some (ec_of cs caller)
   pub waits : (ec_of cs caller).state ≡ Calling ec

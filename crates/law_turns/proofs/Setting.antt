@@ -1,4 +1,4 @@
--- Entries of a table where one is set.
+-- Entries of a table where an entry is set.
 use Rattle.std.proofs.Common.{◌≡◌, ◌<◌, ℕ, zero, suc, ◌+◌, List, [], ◌∷◌, ◌++◌, length, inl, inr, refl, ap, arith}
 use Rattle.std.specs.Prelude.{◌≢◌, ◌⊎◌, slice_get, slice_index, slice_set, Option, Some, None, IsSome}
 use Rattle.nova_model.specs.State.{entry}
@@ -30,7 +30,7 @@ index_itself [] e x below = absurd (omega arith)
 index_itself (y ∷ xs) zero x below = refl
 index_itself (y ∷ xs) (suc e) x below = index_itself xs e x (omega arith)
 
--- what is found where one is set: it, or what was there
+-- what is found where an entry is set: it, or what was there
 pub entry_set : {T : Type 0} (xs : List (Option T)) (e n : ℕ) (x y : T) → entry (slice_get (slice_set xs e (Some x)) n) ≡ Some y →
     ((n ≡ e) × (x ≡ y)) ⊎ ((n ≢ e) × (entry (slice_get xs n) ≡ Some y))
 entry_set [] e n x y h = absurd (cc)
@@ -42,7 +42,7 @@ entry_set (z ∷ xs) (suc e) (suc n) x y h = elim (entry_set xs e n x y h) [
   | inr other ↦ inr (λ is. let same : n ≡ e = omega arith in other.0 same, other.1)
 ]
 
--- what is found where one joins: one that was there, or it
+-- what is found where an entry joins: one that was there, or it
 pub get_joined : {T : Type 0} (xs : List T) (x : T) (n : ℕ) (y : T) → slice_get (xs ++ x ∷ []) n ≡ Some y →
     (slice_get xs n ≡ Some y) ⊎ ((n ≡ length xs) × (x ≡ y))
 get_joined [] x zero y h = let same : x ≡ y = cc in inr (refl, same)
@@ -63,7 +63,7 @@ entry_joined (z ∷ xs) o (suc n) y h = elim (entry_joined xs o n y h) [
   | inr new ↦ inr (ap suc new.0, new.1)
 ]
 
--- where one joins, what was there stays
+-- where an entry joins, what was there stays
 pub get_kept : {T : Type 0} (xs : List T) (x : T) (n : ℕ) (y : T) → slice_get xs n ≡ Some y → slice_get (xs ++ x ∷ []) n ≡ Some y
 get_kept [] x n y h = absurd (cc)
 get_kept (z ∷ xs) x zero y h = h

@@ -1,4 +1,4 @@
--- Stamps: each is given once, and the next one is greater than all.
+-- Stamps: each is given once, and the next is greater than all.
 use Rattle.std.proofs.Common.{◌≡◌, ℕ, zero, suc, ◌<◌, ◌≤◌, ◌+◌, List, [], ◌∷◌, ◌++◌, inl, inr, refl, sym, ap, ◌∙◌, subst, arith}
 use Rattle.std.specs.Prelude.{◌≢◌, ◌⊎◌, Bool, true, false, ◌==◌, slice_get, slice_set, Option, Some, None, IfSome}
 use Rattle.std.specs.List.{Contains}
@@ -24,7 +24,7 @@ pub record AreStamped (os : List Object) (bs : List (Option Budget)) (next : ℕ
   pub below : (n : ℕ) (b : Budget) → entry (slice_get bs n) ≡ Some b → b.stamp < next
   pub apart : (m n : ℕ) (a b : Budget) → entry (slice_get bs m) ≡ Some a → entry (slice_get bs n) ≡ Some b → a.stamp ≡ b.stamp → m ≡ n
 
--- a new one has the stamp that was next, and that one is past it
+-- a new budget has the stamp that was next, and the next stamp is past it
 pub new_stamp : (next : ℕ) (made : NewObject) (b : Budget) → budget_of next made ≡ Some b → (b.stamp ≡ next) × (stamp_past next made ≡ next + 1)
 new_stamp next (new.Sc ec cpu priority quantum) b is = (sym (ap stamp_in is), refl)
   where
@@ -62,7 +62,7 @@ more_stamped os bs next made h = record {
   ];
 }
 
--- one that pays keeps its stamp, or takes the next one
+-- a budget that pays keeps its stamp, or takes the next
 abbrev IsRestamped : ℕ → ℕ → Budget → Budget → Type 0
 IsRestamped next after b x = ((x.stamp ≡ b.stamp) × (after ≡ next)) ⊎ ((x.stamp ≡ next) × (after ≡ next + 1))
 

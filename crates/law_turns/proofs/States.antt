@@ -1,4 +1,4 @@
--- The states of execution contexts after a deed: its own is the one that the deed says, and another stays in its state, or waited and goes on.
+-- The states of execution contexts after a deed: its own is that which the deed says, and another stays in its state, or waited and goes on.
 use Rattle.std.proofs.Common.{◌≡◌, ℕ, refl, ap, ◌∙◌, sym, subst, inl, inr}
 use Rattle.std.specs.Prelude.{◌≢◌, ◌⊎◌, Bool, true, false, if◌then◌else◌, Option, Some, None, is_some}
 use Rattle.nova_range.specs.declared.status.Status.TheVariants.{Success}
@@ -54,7 +54,7 @@ own_state k ec d actor asks fits = sym (deed_course k ec (λ cs all. IsTo k ec d
 
 -- ANOTHER
 
--- one that is parked, waits for a reply, or waits at a semaphore; and one that goes on then
+-- a context that is parked, waits for a reply, or waits at a semaphore; and a context that goes on then
 abbrev pub is_waiting : State → Bool
 is_waiting Parked = true
 is_waiting (Calling h) = true

@@ -1,4 +1,4 @@
--- Tables fit the objects, and callers stay with those who serve them: what is kept of both in a deed and along turns.
+-- Tables fit the objects, and callers stay with the contexts that serve them: what is kept of both in a deed and along turns.
 use Rattle.law_turns.proofs.Tags.{made_fits}
 use Rattle.nova_model.specs.Sources.{Source, with_source}
 use Rattle.law_forest.proofs.Boots.{sources_keep}
@@ -207,7 +207,7 @@ born n (new.Sc ec cpu priority quantum) = none_born false
 born n (new.Pt ec mtd ip) = none_born false
 born n (new.Sm count) = none_born false
 
--- one object more, which nobody serves
+-- an object more, which none serves
 locals_stay : (os : List Object) (o : Object) (h : ℕ) → h ≢ length os → is_local_in (slice_get (os ++ o ∷ []) h) ≡ is_local_in (slice_get os h)
 locals_stay os o h other = ap is_local_in (joined_other os o h other)
 
@@ -220,7 +220,7 @@ joined_served os cs (Some made) as_many served =
     served_more (λ h. is_local_in (slice_get os h)) (λ h. is_local_in (slice_get all h)) cs (context_of (length os) made) served new
     (λ h other. locals_stay os (object_of made) h (λ same. other (same ∙ sym as_many)))
 
--- what a state to which one comes by itself has
+-- what a state to which a context comes by itself has
 record IsPlain (k : KernelState) (ec : ℕ) (s : State) : Type 0 where
   calls : (h : ℕ) → s ≢ Calling h
   works : is_parked (Some s) ≡ false
@@ -234,7 +234,7 @@ plain k ec d (Granting None) may = absurd may
 plain k ec d Replying may = record { calls = λ h is. cc; works = refl; gives = λ is. has_caller k ec may.caller may.its may.keeps; takes = refl }
 plain k ec d other may = record { calls = λ h is. cc; works = refl; gives = λ is. absurd cc; takes = refl }
 
--- who is woken is another than the one who acts
+-- the woken context is another than the context that acts
 pub woken_apart : (k : KernelState) (ec sm w : ℕ) → IsActor k.contexts ec → state_in k.contexts w ≡ Some (Blocked sm) → w ≢ ec
 woken_apart k ec sm w actor waits same =
     let at = ap (λ (n : ℕ). is_blocked (state_in k.contexts n)) (sym same) ∙ ap is_blocked waits in
@@ -313,7 +313,7 @@ pub entry_acts : (cs : Contexts) (o : Option EcState) → acts_as cs (option_map
 entry_acts cs None h = absurd (cc)
 entry_acts cs (Some x) h = refl
 
--- what comes by itself: at most one that is blocked goes on
+-- what comes by itself: at most one blocked context goes on
 pub passing_served : (k : KernelState) (p : Passing) → IsEnding k.contexts (passing_ends k p) → Served k → AreServed (is_local_thread k) (all_edited k.contexts (ends_by (passing_ends k p)))
 passing_served k p ending served =
     passing_contexts (λ cs. AreServed (is_local_thread k) cs) k.contexts (passing_ends k p) ending served

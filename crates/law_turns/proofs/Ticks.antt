@@ -70,7 +70,7 @@ set_ticks cpu (y ∷ os) (c ∷ bs) (suc sc) o b x at there more =
     let its : ℕ = if is_on cpu y then ticks_in c else 0 in
     omega (arith, set_ticks cpu os bs sc o b x at there more, sum-cons its (ticks_on cpu os (slice_set bs sc (Some x))), sum-cons its (ticks_on cpu os bs))
 
--- a new one has none
+-- a new budget has none
 new_ticks : (cpu stamp : ℕ) (made : NewObject) → (if is_on cpu (object_of made) then ticks_in (budget_of stamp made) else 0) ≡ 0
 new_ticks cpu stamp new.Pd = refl
 new_ticks cpu stamp (new.Ec pd its kind sp event) = refl

@@ -1,4 +1,4 @@
--- Virtual CPUs: what deeds they do, and that whatever is done they stay in their states, and who comes by a call is a thread.
+-- Virtual CPUs: what deeds they do, and that whatever is done they stay in their states, and a context that comes by a call is a thread.
 use Rattle.std.proofs.Common.{◌≡◌, ℕ, zero, suc, List, [], ◌∷◌, ◌++◌, length, refl, ap, ◌∙◌, sym, subst, inl, inr, arith}
 use Rattle.std.specs.Prelude.{◌≢◌, ◌==◌, ◌&&◌, Bool, true, false, slice_get, Option, Some, None, is_some, option_map, option_and_then, Result, Ok, Err}
 use Rattle.rv_model.specs.Step.{Once, Raised, Went, environment_call}
@@ -82,7 +82,7 @@ is_guest_deed (Sends handler ip identifier mtd reason q0 q1) = true
 is_guest_deed (Aborts handler mark) = true
 is_guest_deed other = false
 
--- ECALL of one that is no thread is an exit, and in its states it gives nothing and helps nobody
+-- ECALL of a context that is no thread is an exit, and in its states it gives nothing and helps none
 guest_deeds : (k : KernelState) (g : ℕ) → is_thread k g ≡ false → is_guest_state (context k g).state ≡ true → is_guest_deed (deed k g) ≡ true
 unfolding deed
 guest_deeds k g no_thread is = by_state (context k g).state is
@@ -129,7 +129,7 @@ thread_does k ec there tables guests other = by_test (is_thread k ec) refl
 
 -- IN A TABLE OF EXECUTION CONTEXTS
 
--- of an entry: a virtual CPU is in a state of theirs, and who came by a call is a thread
+-- of an entry: a virtual CPU is in a state of theirs, and a caller that came by a call is a thread
 pub record IsGuestEntry (os : List Object) (n : ℕ) (x : EcState) : Type 0 where
   pub state : IsOf os is_vcpu n → is_guest_state x.state ≡ true
   pub callers : (c : ℕ) → x.caller ≡ Some (c, mark.Call) → is_thread_in (slice_get os c) ≡ true
@@ -154,7 +154,7 @@ guests_of k h = record { states = λ g. (h g).state; callers = λ handler caller
 pub caller_thread : (k : KernelState) (ec caller : ℕ) (its : Mark) → AreGuests k → IsCallerOf k ec caller its → its ≡ mark.Call → is_thread k caller ≡ true
 caller_thread k ec caller its h keeps called = (among_of k h ec).callers caller (keeps ∙ ap (λ (m : Mark). Some (caller, m)) called)
 
--- nobody, one that is set and one that joins
+-- no context, a context that is set and one that joins
 none_entry : (os : List Object) (n : ℕ) → IsGuestEntry os n nobody
 none_entry os n = record { state = λ is. refl; callers = λ c is. absurd (cc) }
 
@@ -203,7 +203,7 @@ born_entry os n (new.Sc ec cpu priority quantum) = none_entry _ _
 born_entry os n (new.Pt ec mtd ip) = none_entry _ _
 born_entry os n (new.Sm count) = none_entry _ _
 
--- ONE THAT ACTS
+-- A CONTEXT THAT ACTS
 
 changed_state : (x : EcState) (d : Deed) → is_guest_deed d ≡ true → is_guest_state x.state ≡ true → is_guest_state (actor_after x d).state ≡ true
 changed_state x Rests guest h = h
@@ -218,7 +218,7 @@ changed_state x other guest h = absurd (cc)
 
 -- ANOTHER
 
--- one that goes on, and keeps its caller
+-- a context that goes on, and keeps its caller
 ready_entry : (os : List Object) (n : ℕ) (x y : EcState) → y.state ≡ Ready → y.caller ≡ x.caller → IsGuestEntry os n x → IsGuestEntry os n y
 ready_entry os n x y ready same h = record { state = λ is. ap is_guest_state ready; callers = λ c is. h.callers c (sym same ∙ is) }
 
@@ -226,7 +226,7 @@ resumed_among : (os : List Object) (cs : Contexts) (e : ℕ) (its : Mark) (m : L
 resumed_among os cs e mark.Call m h = set_among os cs e _ (ready_entry os e (ec_of cs e) _ refl refl (h e)) h
 resumed_among os cs e mark.Exit m h = set_among os cs e _ (ready_entry os e (ec_of cs e) _ refl refl (h e)) h
 
--- one whose wait ends goes on
+-- a context whose wait ends goes on
 pub ended_among : (k : KernelState) (w : ℕ) (status : Status) → AreAmong k.objects k.contexts → AreAmong k.objects (with_ec k.contexts w (answered (ec_of k.contexts w) status None))
 ended_among k w status h = set_among k.objects k.contexts w _ (ready_entry k.objects w (ec_of k.contexts w) _ refl refl (h w)) h
 
@@ -307,7 +307,7 @@ applied_guests k ec d actor thread asks tables served h =
     (joined_among k.objects _ (made_by d) (edited_length k.contexts (edits_by k ec d) ∙ contexts_length k tables)
     (deed_course k ec (λ cs all. AreAmong k.objects cs) d actor asks (guest_courses k ec d actor thread served (among_of k h))))
 
--- at the beginning there is none, and nobody called
+-- at the beginning there is none, and no context called
 pub root_among : (root : Root) → AreAmong (root_objects root) (None ∷ Some (root_context root) ∷ None ∷ [])
 root_among root zero = record { state = λ is. refl; callers = λ c is. absurd (cc) }
 root_among root (suc zero) = record { state = λ is. refl; callers = λ c is. absurd (cc) }

@@ -131,7 +131,7 @@ range_created k ec domain is = record {
   follows = refl;
 }
 
--- WHO IS TOLD
+-- WHICH CONTEXT IS TOLD
 
 caller_kept : (o : Option EcState) (p : ℕ × Mark) → (context_in o).caller ≡ Some p → caller_at o ≡ Some p
 caller_kept None p is = absurd (cc)
@@ -141,7 +141,7 @@ abbrev told_at : Option Delivery → Option ℕ
 told_at None = None
 told_at (Some v) = v.told
 
--- who takes items has a caller, and so is a local thread; and who called is a thread
+-- a context that takes items has a caller, and so is a local thread; and a context that called is a thread
 thread_told : (k : KernelState) (ec whom : ℕ) (v : Delivery) → TablesFit k → delivery k ec (context k ec).state ≡ Some v → v.told ≡ Some whom → is_thread k whom ≡ true
 thread_told k ec whom v fits present told = by_state (context k ec).state present
   where
@@ -265,7 +265,7 @@ delivers_tells : (k : KernelState) (ec : ℕ) (o : Option Delivery) → delivery
 delivers_tells k ec None present = tt
 delivers_tells k ec (Some v) present = delivered_tells k ec v present
 
--- one that gives no items ends none
+-- a context that gives no items ends none
 own_tells : (k : KernelState) (ec : ℕ) → is_giving (context k ec).state ≡ false → EndTells k ec (deed k ec)
 own_tells k ec rests = walk.own_holds (EndTells k ec) k ec rests tt (record {
   steps = tt;

@@ -1,4 +1,4 @@
--- Execution contexts that give items: what, to whom, and how far they are.
+-- Execution contexts that give items: what, to which, and how far they are.
 use Rattle.std.specs.Prelude.{◌≡◌, ◌≢◌, ◌<◌, ◌≤◌, ℕ, ◌+◌, ◌-◌, ◌^◌, bit_and, Contains, ◌==◌, ◌&&◌, true, false, if◌then◌else◌, nat_lt, List, [], ◌∷◌, Option, Some, None, Ok, slice_get}
 use Rattle.nova_model.specs.Edges.{is_giving}
 use Rattle.rv_model.specs.Registers.{reg}
@@ -29,7 +29,7 @@ abbrev pub whole : Range → Rights → ℕ → ℕ → Job
 whole range rights giver receiver =
     record { giver = giver; receiver = receiver; kind = range.kind; source = range.base; dest = range.base; order = range.order; rights = rights; cursor = 0 }
 
--- the word in its x12 reads as a range, and it gives that range of its own protection domain to the one of this number
+-- the word in its x12 reads as a range, and it gives that range of its own protection domain to that of number `domain`
 pub record GivesRange (k : KernelState) (ec domain : ℕ) : Type 0 where
   pub range : Range
   pub rights : Rights
@@ -48,7 +48,7 @@ counted_by Irq number count = count
 counted_by Tick number count = count
 counted_by other number count = 0
 
--- how many the present item of an execution context made, where it was so many before these events
+-- how many the present item of an execution context made, where it was `count` before these events
 abbrev pub counted_after : ℕ → ℕ → List Event → ℕ
 counted_after ec count [] = count
 counted_after ec count (e ∷ events) = counted_after ec (if e.ec == ec then counted_by e.kind e.a count else count) events
@@ -73,7 +73,8 @@ pub data GoesOn (old new : KernelState) (ec : ℕ) : Type 0 where
   Ends : is_giving (context new ec).state ≡ false → (item : Delivery) → delivery old ec (context old ec).state ≡ Some item →
       (transfer old ec).item + 1 ≡ item.items → GoesOn old new ec
 
--- the thread whose message has the items: for a handler that takes those of a call its caller, and for one that replies itself. A creator has none.
+-- the thread whose message has the items: for a handler that takes those of a call its caller, and for a handler that replies itself. A creator has
+-- none.
 abbrev pub source_in : ℕ → State → Option (ℕ × Mark) → Option ℕ
 source_in ec (Granting None) (Some (caller, mark)) = Some caller
 source_in ec (Granting None) None = None

@@ -1,5 +1,5 @@
--- What turns keep of a state, whatever it is: tables go with objects, edges are sound, callers stay with those who serve them, and the blocked wait at
--- their semaphores, and they alone have deadlines; and virtual CPUs run, raise exits and wait for their replies.
+-- What turns keep of a state, whatever it is: tables go with objects, edges are sound, callers stay with the contexts that serve them, and the
+-- blocked wait at their semaphores, and they alone have deadlines; and virtual CPUs run, raise exits and wait for their replies.
 use Rattle.nova_model.specs.Edges.{AreEdges}
 use Rattle.nova_model.specs.State.{KernelState, is_local_thread}
 use Rattle.law_turns.specs.Links.{AreServed}

@@ -23,7 +23,7 @@ pub record IsLeft (j : Job) (d : Derivation) : Type 0 where
 abbrev pub NothingIsLeft : List Derivation → Job → Type 0
 NothingIsLeft list j = (d : Derivation) → Contains list d → IsLeft j d → ⊥
 
--- of those that are left the one of least base
+-- of those that are left, that of least base
 pub record IsFirstLeft (list : List Derivation) (j : Job) (d : Derivation) : Type 0 where
   pub there : Contains list d
   pub left : IsLeft j d

@@ -1,4 +1,4 @@
--- Callers and those who serve them, entry by entry of a table of execution contexts.
+-- Callers and the contexts that serve them, entry by entry of a table of execution contexts.
 use Rattle.std.specs.Prelude.{ℕ, ◌≡◌, Bool, true, false, Option, Some, None, IsSome}
 use Rattle.nova_model.specs.Calls.{is_parked}
 use Rattle.nova_model.specs.Edges.{is_dead, is_free}
@@ -10,7 +10,7 @@ use Rattle.nova_model.specs.declared.context.State.{State}
 use Rattle.nova_model.specs.declared.context.State.TheVariants.{Calling, Granting, Replying}
 pub use Rattle.nova_ec.specs.Entries.{caller_at, cpu_at, state_at}
 
--- it is the caller of this one, and came so
+-- `caller` is the caller of `ec`, and came by `mark`
 abbrev pub IsCallerOf : KernelState → ℕ → ℕ → Mark → Type 0
 IsCallerOf k ec caller mark = (context k ec).caller ≡ Some (caller, mark)
 
@@ -20,15 +20,15 @@ handles_items (Some (Granting None)) = true
 handles_items (Some Replying) = true
 handles_items other = false
 
--- one and another: who waits for a reply of the other is kept as its caller, whom a handler keeps waits for it while it lives, and both are on one
--- processor
+-- a context and another: a context that waits for a reply of the other is kept as its caller, the caller that a handler keeps waits for it while it
+-- lives, and both are on one processor
 pub record IsLinked (c : ℕ) (x : Option EcState) (h : ℕ) (y : Option EcState) : Type 0 where
   pub known : state_at x ≡ Some (Calling h) → (mark : Mark) × (caller_at y ≡ Some (c, mark))
   pub waits : (mark : Mark) → caller_at y ≡ Some (c, mark) → is_dead (state_at y) ≡ false → state_at x ≡ Some (Calling h)
   pub cpu : (mark : Mark) → caller_at y ≡ Some (c, mark) → cpu_at x ≡ cpu_at y
 
 -- of each by itself: only a local thread is parked, and then without a caller; a local thread that is at work has one; a caller is kept by a local
--- thread alone; one that takes or gives items has a caller, and one that takes them was called
+-- thread alone; a context that takes or gives items has a caller, and a context that takes them was called
 pub record IsWell (is_local : Bool) (y : Option EcState) : Type 0 where
   pub parked : is_parked (state_at y) ≡ true → (caller_at y ≡ None) × (is_local ≡ true)
   pub serving : is_local ≡ true → IsSome y → is_free (state_at y) ≡ false → IsSome (caller_at y)

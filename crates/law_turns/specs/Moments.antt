@@ -7,7 +7,7 @@ use Rattle.nova_model.specs.declared.times.Deadline.{Deadline}
 use Rattle.nova_model.specs.declared.times.Due.{Due}
 use Rattle.nova_model.specs.declared.times.Due.TheVariants as due
 
--- so many turns at least are left until something is due
+-- at least `n` turns are left until something is due
 abbrev pub IsEarly : Times → ℕ → ℕ → Type 0
 IsEarly t cpu n = IfSome (until_due t cpu) (λ left. n ≤ left)
 

@@ -12,7 +12,7 @@ use Rattle.nova_model.specs.declared.context.EcState.{EcState}
 use Rattle.nova_model.specs.declared.context.State.TheVariants.{Ready}
 use Rattle.nova_model.specs.declared.event.Event.{Event}
 
--- the caller has the status in x10, where it has that register, and its pc is after the instruction; one that helped is ready; all else of it is
+-- the caller has the status in x10, where it has that register, and its pc is after the instruction; a caller that helped is ready; all else of it is
 -- as before
 pub record IsAnswered (code : ℕ) (old new : EcState) : Type 0 where
   pub status : 10 < length old.regs.x → reg new.regs 10 ≡ code
@@ -46,7 +46,8 @@ pub record LeavesRest (old new : KernelState) (ec sc cpu : ℕ) : Type 0 where
   pub alarms : new.times.alarms ≡ old.times.alarms
   pub clocks : (other : ℕ) → other ≢ cpu → slice_get new.times.clocks other ≡ slice_get old.times.clocks other
 
--- the status is the event's second number: it changes x10 and pc of the caller, and the state of one that helped, the charge what it charges, and nothing else is changed
+-- the status is the event's second number: it changes x10 and pc of the caller, and the state of a caller that helped, the charge what it charges,
+-- and nothing else is changed
 pub record IsRefusal (k : KernelState) (cpu : ℕ) (e : Event) : Type 0 where
   pub status : Status
   pub code : status_code status ≡ e.b

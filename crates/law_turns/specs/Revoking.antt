@@ -23,7 +23,7 @@ revoke_after k ec (Revokes range own) e = if e == ec then Some (record { pd = pd
 revoke_after k ec Returns e = if e == ec then None else revoke_of k e
 revoke_after k ec other e = revoke_of k e
 
--- and after a turn in which this one acts; one in which nobody does leaves all
+-- and after a turn in which this context acts; a turn in which none does leaves all
 abbrev pub revoke_in_turn : KernelState → Option Candidate → ℕ → Option Revocation
 revoke_in_turn k None e = revoke_of k e
 revoke_in_turn k (Some chosen) e = revoke_after k chosen.actor (deed k chosen.actor) e

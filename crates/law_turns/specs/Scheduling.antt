@@ -42,8 +42,8 @@ abbrev pub HasTurnsLeft : KernelState → ℕ → Object → Type 0
 HasTurnsLeft k n (Sc ec cpu priority quantum) = IfSome (budget_at k n) (λ b. (1 ≤ b.left) × (b.left ≤ quantum))
 HasTurnsLeft k n other = Unit {0}
 
--- a turn less is left and the stamp stays; or the last one is used up, and the whole quantum is left again, with the last stamp of those that
--- are given from `next` on, before `last`
+-- a turn less is left and the stamp stays; or the last is used up, and the whole quantum is left again, with the last stamp of those that are given
+-- from `next` on, before `last`
 pub data IsUsed (before after : Budget) (quantum next last : ℕ) : Type 0 where
   GoesOn : 1 < before.left → after.left + 1 ≡ before.left → after.stamp ≡ before.stamp → IsUsed before after quantum next last
   Renewed : before.left ≤ 1 → after.left ≡ quantum → next ≤ after.stamp → after.stamp + 1 ≡ last → IsUsed before after quantum next last
@@ -53,8 +53,8 @@ pub record IsUnpaid (old new : KernelState) : Type 0 where
   pub budgets : new.budgets ≡ old.budgets
   pub next : new.next_stamp ≡ old.next_stamp
 
--- a turn of a processor, that a scheduling context of it pays: that one has a tick more, the budgets of all others that are there stay, and a
--- new one has no ticks and the stamp that was next. At most two stamps are given.
+-- a turn of a processor, that a scheduling context of it pays: its budget has a tick more, the budgets of all others that are there stay, and a new
+-- budget has no ticks and the stamp that was next. At most two stamps are given.
 pub record IsPaidBy (old new : KernelState) (cpu sc : ℕ) : Type 0 where
   pub before : Budget
   pub after : Budget

@@ -1,4 +1,4 @@
--- Virtual CPUs: one runs, raises exits and waits for their replies, and does nothing else.
+-- Virtual CPUs: each runs, raises exits and waits for their replies, and does nothing else.
 use Rattle.std.specs.Prelude.{◌≡◌, ℕ, Bool, true, false, Some}
 use Rattle.nova_model.specs.Capabilities.{is_vcpu}
 use Rattle.nova_model.specs.Edges.{caller_in}
@@ -18,7 +18,7 @@ is_guest_state (Calling handler) = true
 is_guest_state Dead = true
 is_guest_state other = false
 
--- virtual CPUs are in such states; and who came by a call is a thread, so that a virtual CPU waits for the replies to its exits alone
+-- virtual CPUs are in such states; and a caller that came by a call is a thread, so that a virtual CPU waits for the replies to its exits alone
 pub record AreGuests (k : KernelState) : Type 0 where
   pub states : (g : ℕ) → IsOf k.objects is_vcpu g → is_guest_state (context k g).state ≡ true
   pub callers : (handler caller : ℕ) → caller_in k.contexts handler ≡ Some (caller, mark.Call) → is_thread k caller ≡ true

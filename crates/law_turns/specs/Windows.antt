@@ -22,8 +22,9 @@ pub record IsWholeSpace (range_word window : ℕ) : Type 0 where
       read_as (meaning_of window) ≡ Some (record { kind = range.kind; base = 0; order = 20 }, rights)
   pub none : read_as (meaning_of range_word) ≡ None → window ≡ 0
 
--- the present item of `ec` is one of the message of a sender; it goes to the windows of a receiver, which a thread has in its message, where a virtual
--- CPU has none for translations, and the whole space for delegations; this one is told what came of it, or nobody, and after the last one this follows
+-- the present item of `ec` is one of the message of a sender; it goes to the windows of a receiver, which a thread has in its message, where a
+-- virtual CPU has none for translations, and the whole space for delegations; `whom` is told what came of it, or none, and after the last item `last`
+-- follows
 pub record GoesBetween (k : KernelState) (ec sender receiver : ℕ) (whom : Option ℕ) (last : Sequel) : Type 0 where
   pub item : Delivery
   pub present : delivery k ec (context k ec).state ≡ Some item
@@ -39,8 +40,8 @@ pub record GoesBetween (k : KernelState) (ec sender receiver : ℕ) (whom : Opti
   pub told : item.told ≡ whom
   pub follows : item.last ≡ last
 
--- the only item of a creator is a delegation, of the range in its x12 to that range, from its protection domain to this one; nobody is told,
--- and then the new domain is open
+-- the only item of a creator is a delegation, of the range in its x12 to that range, from its protection domain to `domain`; none is told, and then
+-- the new domain is open
 pub record GoesToItself (k : KernelState) (ec domain : ℕ) : Type 0 where
   pub item : Delivery
   pub present : delivery k ec (context k ec).state ≡ Some item
@@ -60,7 +61,7 @@ pub record IsDelegated (item : Delivery) (children first : ℕ) : Type 0 where
   pub none : children ≡ 0 → first ≡ 0
   pub some : children ≢ 0 → first ≡ word_of (Some (dest_of job, job.rights))
 
--- how an item ended, and the first word that tells it: a delegation that is done, one that is skipped as a whole, and a translation
+-- how an item ended, and the first word that tells it: a delegation that is done, a delegation that is skipped as a whole, and a translation
 abbrev pub Tells : KernelState → ℕ → Delivery → ItemEnd → ℕ → Type 0
 Tells k ec item (Given children) first =
     (item.second_word % 2 ≡ 1) × (children ≡ (transfer k ec).children) × IsDelegated item children first
@@ -69,7 +70,7 @@ Tells k ec item (Skipped skip) first =
 Tells k ec item (Translated word) first =
     (item.second_word % 2 ≡ 0) × (word ≡ translated k.delegations.list item.range_word item.translations item.giver item.receiver) × (first ≡ word)
 
--- the words that tell of the present item, which ended so: for whom they are, how it ended, and bit 0 of its second word
+-- the words that tell of the present item, which ended so: for which context they are, how it ended, and bit 0 of its second word
 pub record TellsOfItem (k : KernelState) (ec number : ℕ) (end : ItemEnd) (words : ItemWords) : Type 0 where
   pub item : Delivery
   pub present : delivery k ec (context k ec).state ≡ Some item
@@ -78,7 +79,7 @@ pub record TellsOfItem (k : KernelState) (ec number : ℕ) (end : ItemEnd) (word
   pub first : Tells k ec item end words.first
   pub second : words.second ≡ item.second_word % 2
 
--- the present item ended: another one follows, or what follows the last; and words tell of it where somebody is told
+-- the present item ended: another follows, or what follows the last; and words tell of it where a context is told
 pub record EndsItem (k : KernelState) (ec number : ℕ) (words : Option ItemWords) (follows : Sequel) : Type 0 where
   pub item : Delivery
   pub present : delivery k ec (context k ec).state ≡ Some item

@@ -13,8 +13,8 @@ use Rattle.nova_model.specs.declared.deed.Deed.TheVariants.{Steps, Sends, Finish
 abbrev pub words_at : KernelState → ℕ → Option (List ℕ)
 words_at k n = entry (slice_get k.messages n)
 
--- whose a deed of this execution context writes: an instruction its own, a call or an exit that is sent its handler's, a reply to a call its caller's, and
--- the end of an item those of the one who is told. A reply to an exit writes nobody's.
+-- the context whose words a deed of this execution context writes: an instruction its own, a call or an exit that is sent its handler's, a reply to a
+-- call its caller's, and the end of an item those of the context that is told. A reply to an exit writes none.
 abbrev pub whose_words : ℕ → Deed → Option ℕ
 whose_words ec Steps = Some ec
 whose_words ec (Calls handler ip identifier items) = Some handler

@@ -1,4 +1,4 @@
-// Laws of callers: whom a handler serves, and who waits for its reply.
+// Laws of callers: the context that a handler serves, and that which waits for its reply.
 ghost use Rattle.std.specs.Prelude.{◌≡◌, ◌≢◌, ℕ, List, true, false, Some, None, slice_get};
 ghost use Rattle.nova_objects.specs.declared.object.Object.TheVariants.{Pt};
 ghost use Rattle.nova_model.specs.Boot.{Scenario, boot};
@@ -10,11 +10,11 @@ ghost use Rattle.nova_model.specs.declared.context.Mark.TheVariants.{Call};
 ghost use Rattle.nova_model.specs.declared.context.State.TheVariants.{Calling, Granting, Parked};
 ghost use Rattle.law_turns.specs.Callers.{HasNoCaller, HasOneCaller};
 
-/// Whatever list of turns is taken from whatever boot state, a local thread that is neither parked nor
-/// dead has exactly one caller: it keeps one that came by a call or by an exit, which waits for its reply,
-/// and no other does. One that takes items was called. One that is parked has no caller. Callers are there,
-/// and of the processor of those who serve them; who waits for a reply is the caller that its handler keeps.
-/// Only local threads are handlers of portals, are ever parked, or have callers.
+/// Whatever list of turns is taken from whatever boot state, a local thread that is neither parked nor dead has
+/// exactly one caller. It keeps a caller that came by a call or by an exit, which waits for its reply, and no
+/// other does. A handler that takes items was called. A parked thread has no caller. Callers are there, and of
+/// the processor of the handlers that serve them; a context that waits for a reply is the caller that its
+/// handler keeps. Only local threads are handlers of portals, are ever parked, or have callers.
 pub fn a_handler_at_work_has_one_caller()
     ensures at_work { (scenario : Scenario) (turns : List ℕ) (h : ℕ)
         → is_local_thread (run (boot scenario) turns) h ≡ true

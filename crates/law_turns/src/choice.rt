@@ -1,4 +1,4 @@
-// Laws of the choice of who runs.
+// Laws of the choice of what runs.
 ghost use Rattle.std.specs.Prelude.{◌≡◌, ◌↔◌, ℕ, List, [], None, IfSome};
 ghost use Rattle.nova_model.specs.Boot.{Scenario, boot};
 ghost use Rattle.nova_model.specs.Choice.{candidates, choice};

@@ -1,4 +1,4 @@
-// Laws of donation: edges, and who acts.
+// Laws of donation: edges, and the contexts that act.
 ghost use Rattle.std.specs.Prelude.{◌≡◌, ◌≢◌, ◌↔◌, ℕ, List, true, IfSome, IsSome};
 ghost use Rattle.nova_model.specs.Boot.{Scenario, boot};
 ghost use Rattle.nova_model.specs.Choice.{choice};
@@ -10,11 +10,11 @@ ghost use Rattle.nova_model.specs.declared.deed.Deed.TheVariants.{Rests};
 ghost use Rattle.nova_ec.specs.Ways.{EndsAt, Leads};
 ghost use Rattle.law_turns.specs.Keeping.{IsKept};
 
-/// Whatever list of turns is taken from whatever boot state, edges stay on one processor and form no
-/// circle. So each chase ends, with the first that is met along edges and that acts or has no edge; and
-/// one is met from another exactly where some number of edges leads there. Who is chosen acts, and does
-/// something. A turn from any state in which tables go with objects, edges are sound and callers stay with
-/// those who serve them leaves such a state.
+/// Whatever list of turns is taken from whatever boot state, edges stay on one processor and form no circle. So
+/// each chase ends, with the first that is met along edges and that acts or has no edge; and a context is met
+/// from another exactly where some number of edges leads there. The chosen context acts, and does something. A
+/// turn from any state in which tables go with objects, edges are sound and callers stay with the contexts that
+/// serve them leaves such a state.
 pub fn edges_form_no_circle()
     ensures sound { (scenario : Scenario) (turns : List ℕ) → AreEdges (run (boot scenario) turns).contexts }
     ensures ends { (scenario : Scenario) (turns : List ℕ) (e : ℕ)

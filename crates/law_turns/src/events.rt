@@ -1,4 +1,4 @@
-// Laws of events: whom they name, and how many there are.
+// Laws of events: the contexts that they name, and how many there are.
 ghost use Rattle.std.specs.Prelude.{◌≡◌, ◌↔◌, ◌+◌, ℕ, true, false, List, length, map, slice_get, take, Some, None};
 ghost use Rattle.nova_model.specs.Boot.{Scenario, boot};
 ghost use Rattle.nova_model.specs.Choice.{choose};
@@ -12,11 +12,11 @@ ghost use Rattle.nova_model.specs.Times.{next_moment};
 ghost use Rattle.law_turns.specs.Events.{NamesChosen, NamesNobody, turns_given};
 ghost use Rattle.law_turns.specs.Scheduling.{paid_on, turns_passed};
 
-/// The event of a turn names the processor whose turn it is, the scheduling context that was chosen,
-/// which is the one that pays (`the_chosen_pays`), and who acts: of those that are met along edges from
-/// the scheduling context's execution context on, that one first, the first that acts. The event of a
-/// deadline, an alarm or a tick names the processor, and no scheduling context. A processor is idle exactly
-/// where none is chosen and nothing is to come.
+/// The event of a turn names the processor whose turn it is, the scheduling context that was chosen, which pays
+/// (`the_chosen_pays`), and the context that acts: of those that are met along edges from the scheduling
+/// context's execution context on, itself first, the first that acts. The event of a deadline, an alarm or a
+/// tick names the processor, and no scheduling context. A processor is idle exactly where none is chosen and
+/// nothing is to come.
 pub fn an_event_names_the_chosen()
     ensures names { (k : KernelState) (cpu : ℕ) (e : Event) → is_passing e.kind ≡ false → answer_of (turn k cpu) ≡ Stepped e → NamesChosen k cpu e }
     ensures nobody { (k : KernelState) (cpu : ℕ) (e : Event) → is_passing e.kind ≡ true → answer_of (turn k cpu) ≡ Stepped e → NamesNobody cpu e }
@@ -24,9 +24,9 @@ pub fn an_event_names_the_chosen()
 {}
 
 /// Along an order without an idle turn there is an event for each turn, in the same order, and so as many
-/// events as turns; and each is the answer of its turn, in the state that the turns before it left. From
-/// a boot state on, the scheduling contexts of a processor then have as many ticks as the order gives it
-/// turns, less those that are deadlines, alarms and ticks.
+/// events as turns. Each is the answer of its turn, in the state that the turns before it left. From a boot
+/// state on, the scheduling contexts of a processor then have as many ticks as the order gives it turns, less
+/// those that are deadlines, alarms and ticks.
 pub fn a_trace_has_an_event_a_turn()
     ensures processors { (k : KernelState) (order : List ℕ) → IsFreeOfIdle k order → map (λ e. e.cpu) (trace k order) ≡ order }
     ensures as_many { (k : KernelState) (order : List ℕ) → IsFreeOfIdle k order → length (trace k order) ≡ length order }

@@ -10,9 +10,9 @@ ghost use Rattle.nova_model.specs.declared.deed.Deed.TheVariants.{Makes};
 ghost use Rattle.nova_model.specs.declared.new_object.NewObject.TheVariants.{Sc};
 ghost use Rattle.law_turns.specs.Asked.{AsksSchedule, IsCalling};
 
-/// A scheduling context that is made is the one that its maker's registers ask for, and the maker may
-/// have it made. Where delegations are a sound forest, a hypercall that asks so is not refused: it makes
-/// that scheduling context, and so does the turn of a thread whose next instruction is this hypercall.
+/// A scheduling context that is made is as its maker's registers ask for, and the maker may have it made. Where
+/// delegations are a sound forest, a hypercall that asks so is not refused: it makes that scheduling context,
+/// and so does the turn of a thread whose next instruction is this hypercall.
 pub fn a_schedule_is_made_as_asked()
     ensures asked { (k : KernelState) (caller call target ec cpu priority quantum : ℕ)
         → deed k caller ≡ Makes call target (Sc ec cpu priority quantum)

@@ -11,11 +11,10 @@ ghost use Rattle.nova_model.specs.declared.deed.Deed.TheVariants.{Returns, Revok
 ghost use Rattle.law_turns.specs.Keeping.{IsKept};
 ghost use Rattle.law_turns.specs.Revoking.{AsksRevoke, HasRevoked, revoke_after, revoke_in_turn, running_after};
 
-/// An execution context that begins a revoke asks for it by a hypercall of its registers, and ran none. It
-/// runs until it returns, which it does when nothing is left of what it takes away. From any state in
-/// which tables go with objects and callers stay with those who serve them, nothing else begins a revoke
-/// or ends one: a deed, and a turn, leaves the revokes of all others as they were. And no execution context
-/// goes away.
+/// An execution context that begins a revoke asks for it by a hypercall of its registers, and ran none. It runs
+/// until it returns, which it does when nothing is left of what it takes away. From any state in which tables
+/// go with objects and callers stay with the contexts that serve them, nothing else begins a revoke or ends
+/// one: a deed, and a turn, leaves the revokes of all others as they were. And no execution context goes away.
 pub fn running_revokes_are_their_runners()
     ensures deeds { (k : KernelState) (ec : ℕ) → IsKept k → acts k.contexts ec ≡ true
         → (e : ℕ) → revoke_of (done k ec (deed k ec)) e ≡ revoke_after k ec (deed k ec) e }

@@ -33,9 +33,9 @@ pub fn ticks_count_turns()
     ensures all { (scenario : Scenario) (turns : List ℕ) → (run (boot scenario) turns).turns ≡ length (trace (boot scenario) turns) }
 {}
 
-/// Whatever list of turns is taken from whatever boot state, no two scheduling contexts have the same
-/// stamp, and the next one is greater than all of theirs. A turn never lowers it, and gives no stamp below
-/// it (`the_chosen_pays`), so that none is given twice.
+/// Whatever list of turns is taken from whatever boot state, no two scheduling contexts have the same stamp,
+/// and the next is greater than all of theirs. A turn never lowers it, and gives no stamp below it
+/// (`the_chosen_pays`), so that none is given twice.
 pub fn stamps_are_given_once()
     ensures below { (scenario : Scenario) (turns : List ℕ) (n : ℕ)
         → IfSome (budget_at (run (boot scenario) turns) n) (λ b. b.stamp < (run (boot scenario) turns).next_stamp) }
@@ -55,8 +55,8 @@ pub fn what_is_left_is_within_its_quantum()
         → IfSome (slice_get (run (boot scenario) turns).objects n) (HasTurnsLeft (run (boot scenario) turns) n) }
 {}
 
-/// Whatever list of turns is taken from whatever boot state, an execution context has at most one
-/// scheduling context, and one that has is there and is no local thread.
+/// Whatever list of turns is taken from whatever boot state, an execution context has at most one scheduling
+/// context, and an execution context that has one is there and is no local thread.
 pub fn each_has_at_most_one_scheduling_context()
     ensures one { (scenario : Scenario) (turns : List ℕ) (ec m n : ℕ)
         → IsOf (run (boot scenario) turns).objects (schedules ec) m
@@ -67,11 +67,10 @@ pub fn each_has_at_most_one_scheduling_context()
         → IsOf (run (boot scenario) turns).objects is_schedulable ec }
 {}
 
-/// A deadline, an alarm and a tick are paid by none, and leave all budgets. Any other turn that is taken is
-/// paid by the scheduling context that its event names, which is one of its processor: it has one tick more, and a turn less is left of its quantum. Where that was the last, the
-/// whole quantum is left again, and it takes the next stamp. The budgets of all other scheduling contexts
-/// stay. A new one has no ticks and takes the next stamp, before the one that pays; and whatever list of
-/// turns is taken from whatever boot state, it begins with its whole quantum.
+/// A deadline, an alarm and a tick are paid by none, and leave all budgets. Any other turn that is taken is paid by the scheduling context that its
+/// event names, which is one of its processor: it has one tick more, and a turn less is left of its quantum. Where that was the last, the whole
+/// quantum is left again, and it takes the next stamp. The budgets of all other scheduling contexts stay. A new budget has no ticks and takes the
+/// next stamp, before that which pays; and whatever list of turns is taken from whatever boot state, it begins with its whole quantum.
 pub fn the_chosen_pays()
     ensures pays { (k : KernelState) (cpu : ℕ) (e : Event) → is_passing e.kind ≡ false → answer_of (turn k cpu) ≡ Stepped e → IsPaidBy k (after k cpu) cpu e.sc }
     ensures free { (k : KernelState) (cpu : ℕ) (e : Event) → is_passing e.kind ≡ true → answer_of (turn k cpu) ≡ Stepped e → IsUnpaid k (after k cpu) }

@@ -1,4 +1,4 @@
-// Laws of semaphores: who waits, and who is woken.
+// Laws of semaphores: which contexts wait, and which is woken.
 ghost use Rattle.std.specs.Prelude.{◌≡◌, ◌↔◌, ◌∷◌, ℕ, List, true, Some};
 ghost use Rattle.nova_model.specs.Boot.{Scenario, boot};
 ghost use Rattle.nova_model.specs.Deeds.{deed};
@@ -19,7 +19,7 @@ pub fn the_blocked_wait_at_their_semaphores()
     ensures sound { (scenario : Scenario) (turns : List ℕ) → AreSound (run (boot scenario) turns).semaphores }
 {}
 
-/// Who is woken by an up is the first of those that wait at the semaphore.
+/// The execution context that an up wakes is the first of those that wait at the semaphore.
 pub fn the_first_is_woken()
     ensures { (k : KernelState) (ec sm first : ℕ) → deed k ec ≡ Ups sm (Some first)
         → (rest : List ℕ) × ((semaphore k.semaphores sm).waiting ≡ first ∷ rest) }

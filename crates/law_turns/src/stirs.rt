@@ -11,9 +11,9 @@ ghost use Rattle.nova_model.specs.State.{KernelState};
 ghost use Rattle.nova_model.specs.declared.root.Root.{Root};
 ghost use Rattle.law_turns.specs.Stirs.{AreWithinTurns, stirs_of};
 
-/// A turn that is an input for a virtual CPU other than `Own` raises its stir count by one, also one in which
-/// its own exit is sent, or in which it ends, since others decide that. A turn that is `Own`, or nothing for
-/// it, leaves the count. Whatever list of turns is taken from whatever boot state, a new virtual CPU's
+/// A turn that is an input for a virtual CPU other than `Own` raises its stir count by one. So does a turn in
+/// which its own exit is sent, or in which it ends, since others decide that. A turn that is `Own`, or nothing
+/// for it, leaves the count. Whatever list of turns is taken from whatever boot state, a new virtual CPU's
 /// count is 0 after the turn that makes it. (`ticks_count_turns` has the counts of processors.)
 pub fn stir_counts_rise_with_inputs_from_outside()
     ensures outside { (k : KernelState) (cpu g count : ℕ) (i : Input)
@@ -35,8 +35,8 @@ pub fn stir_counts_rise_with_inputs_from_outside()
         → stirs_of (after (run (boot scenario) turns) cpu) g ≡ Some 0 }
 {}
 
-/// A stir count is at most the count of turns that were taken: so it is where a kernel begins, each turn
-/// keeps it, and so it is whatever list of turns is taken from whatever boot state.
+/// A stir count is at most the count of turns that were taken. So it is where a kernel begins, each turn keeps
+/// it, and so it is whatever list of turns is taken from whatever boot state.
 pub fn stir_counts_are_within_turns()
     ensures begins { (cpus ram consoles : ℕ) (root : Root) → AreWithinTurns (bare cpus ram consoles root) }
     ensures kept { (k : KernelState) (cpu : ℕ) → AreWithinTurns k → AreWithinTurns (after k cpu) }

@@ -17,8 +17,8 @@ ghost use Rattle.law_forest.specs.Turns.{passing, passing_event, turned};
 ghost use Rattle.law_turns.specs.Moments.{HasEntries, IsDueOn, IsEntryOf, IsFirstEntry, IsOnTime};
 ghost use Rattle.law_turns.specs.Waiting.{IsAwaiting};
 
-/// Whatever list of turns is taken from whatever boot state, who has a deadline is blocked at its semaphore,
-/// in whose queue it waits, and is of its processor.
+/// Whatever list of turns is taken from whatever boot state, an execution context that has a deadline is
+/// blocked at its semaphore, in whose queue it waits, and is of its processor.
 pub fn who_has_a_deadline_waits_there()
     ensures blocked { (scenario : Scenario) (turns : List ℕ) (ec : ℕ) (d : Deadline)
         → deadline_of (run (boot scenario) turns).times ec ≡ Some d
@@ -29,8 +29,8 @@ pub fn who_has_a_deadline_waits_there()
 {}
 
 /// What is to come on a processor are its alarms that go on and the deadlines of its execution contexts, and
-/// nothing else. The first of it is the one of least moment; at one moment an alarm comes before a deadline,
-/// and then the lesser number. It is due where its moment is at most the clock.
+/// nothing else. The first of it is that of least moment; at one moment an alarm comes before a deadline, and
+/// then the lesser number. It is due where its moment is at most the clock.
 pub fn the_first_that_is_to_come_is_due()
     ensures entries { (t : Times) (cpu : ℕ) (e : Entry) → Contains (entries t cpu) e → IsEntryOf t cpu e }
     ensures all { (t : Times) (cpu : ℕ) → HasEntries t cpu }
@@ -39,8 +39,8 @@ pub fn the_first_that_is_to_come_is_due()
     ensures due { (t : Times) (cpu : ℕ) (what : Due) → due_on t cpu ≡ Some what → IsDueOn t cpu what }
 {}
 
-/// Where something is due, the turn of the processor is that, whoever is chosen; and where nothing is due,
-/// nothing is runnable and something is to come, it is a tick.
+/// Where something is due, the turn of the processor is that, whichever context is chosen. Where nothing is
+/// due, nothing is runnable and something is to come, it is a tick.
 pub fn what_is_due_takes_the_turn()
     ensures state { (k : KernelState) (cpu : ℕ) (what : Due) → due_on k.times cpu ≡ Some what → after k cpu ≡ turned k cpu (passing k (Falls what)) }
     ensures event { (k : KernelState) (cpu : ℕ) (what : Due) → due_on k.times cpu ≡ Some what

@@ -1,4 +1,4 @@
-// Laws of virtual CPUs: what one waits for, and who calls.
+// Laws of virtual CPUs: what a virtual CPU waits for, and which contexts call.
 ghost use Rattle.std.specs.Prelude.{◌≡◌, ℕ, List, true, Some};
 ghost use Rattle.nova_model.specs.Boot.{Scenario, boot};
 ghost use Rattle.nova_model.specs.Capabilities.{is_vcpu};
@@ -10,10 +10,10 @@ ghost use Rattle.nova_model.specs.declared.context.State.TheVariants.{Calling};
 ghost use Rattle.law_turns.specs.Tables.{IsOf};
 ghost use Rattle.law_turns.specs.Virtual.{is_guest_state};
 
-/// Whatever list of turns is taken from whatever boot state, a virtual CPU runs, has raised an exit, waits
-/// for its reply or is dead: it is never parked or blocked, it helps nobody, and it gives no items and revokes
-/// nothing. Who came by a call is a thread. A virtual CPU that waits for a handler is the caller that it keeps,
-/// and came by an exit.
+/// Whatever list of turns is taken from whatever boot state, a virtual CPU runs, has raised an exit, waits for
+/// its reply or is dead. It is never parked or blocked, it helps none, and it gives no items and revokes
+/// nothing. A caller that came by a call is a thread. A virtual CPU that waits for a handler is the caller that
+/// it keeps, and came by an exit.
 pub fn virtual_cpus_wait_for_their_exits_alone()
     ensures states { (scenario : Scenario) (turns : List ℕ) (g : ℕ)
         → IsOf (run (boot scenario) turns).objects is_vcpu g

@@ -16,14 +16,12 @@ ghost use Rattle.nova_model.specs.declared.transfer.Sequel.{Sequel};
 ghost use Rattle.law_forest.specs.Turns.{is_passing};
 ghost use Rattle.law_turns.specs.Words.{HasWritten, words_at, whose_words};
 
-/// A turn changes the message words of one thread at most, and a deadline, an alarm and a tick those of none. They are those of the one who acts, where it
-/// does an instruction: its store is done to them where it is a thread and the store lies among the first
-/// 512 bytes of its page 0xfffff, and else they stay. Or they are those of the handler of a call that is
-/// sent, or of the caller of a reply to a call, and change by the counts and the counted words of the
-/// message. Or they are those of the handler of an exit that is sent, and change by the exit's message: the
-/// groups that the portal's descriptor names, of the one who raised it, whose own words stay. A reply to an
-/// exit leaves all words. Or they are those of the one who is told of an item, and change by that item's
-/// two words. That is the one who acts, or its caller, who called.
+/// A turn changes the message words of one thread at most, and a deadline, an alarm and a tick those of none. They are those of the context that
+/// acts, where it does an instruction: its store is done to them where it is a thread and the store lies among the first 512 bytes of its page
+/// 0xfffff, and else they stay. Or they are those of the handler of a call that is sent, or of the caller of a reply to a call, and change by the
+/// counts and the counted words of the message. Or they are those of the handler of an exit that is sent, and change by the exit's message: the
+/// groups that the portal's descriptor names, of the context that raised it, whose own words stay. A reply to an exit leaves all words. Or they are
+/// those of the context that is told of an item, and change by that item's two words. That is the context that acts, or its caller, which called.
 /// Whatever list of turns is taken from whatever boot state, message words are 128.
 pub fn a_turn_writes_the_words_of_one()
     ensures others { (k : KernelState) (cpu : ℕ) (e : Event) (n : ℕ) (words : List ℕ)

@@ -31,7 +31,7 @@ use Rattle.law_views.specs.Said.{AfterItems, AtOnce, Completes, Delegates, IsOwn
 use Rattle.law_origins.proofs.Actors.{input_is}
 use Rattle.law_views.proofs.Said.{of_memory, tells, view_covers}
 
--- NOBODY ACTS
+-- NO CONTEXT ACTS
 
 pub nobody_told : (k : KernelState) (cpu g : ℕ) → next_to_act k cpu ≡ None → input k cpu g ≡ None
 nobody_told k cpu g none = of_input (λ o. o ≡ None) k cpu g refl (λ c chosen. absurd (let both : None ≡ Some c = sym none ∙ chosen in cc))
@@ -86,7 +86,7 @@ own_told k cpu g sound virtual is h = own_input_is k cpu g is ∙ deed_own k g (
 
 -- ANOTHER'S
 
--- who does what no virtual CPU does is another
+-- a context that does what no virtual CPU does is another
 another : (k : KernelState) (ec g : ℕ) (d : Deed) → IsSound k → IsVirtual k g → deed k ec ≡ d → (IsOwn d → ⊥) → ec ≢ g
 another k ec g d sound virtual is not_own same = not_own (subst IsOwn (ap (deed k) (sym same) ∙ is) (own_deed k g (guest_there k g sound virtual)))
 

@@ -24,7 +24,7 @@ use Rattle.law_views.proofs.Seen.{pairs_from}
 
 -- CELLS
 
--- one that comes where its frame has none
+-- a cell that comes where its frame has none
 put : (f : ℕ) (c : Cell) (cells : List Cell) → cell_at cells c.frame ≡ None →
     cell_at (placed frame_of c cells) f ≡ (if c.frame == f then Some c.contents else cell_at cells f)
 put f c [] none = grind arith

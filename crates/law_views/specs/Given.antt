@@ -25,7 +25,7 @@ pub record AreCellsWith (m : Map) (contents : List ℕ) (old new : List Cell) : 
   pub empty : (frame : ℕ) → cell_at old frame ≡ None → length contents ≡ 0 → cell_at new frame ≡ None
   pub rising : AllPairs (λ a b. a.frame < b.frame) old → AllPairs (λ a b. a.frame < b.frame) new
 
--- maps once one has come: all that were there, in their order, and this one before the first of a greater base, behind lesser ones alone
+-- maps once one has come: all that were there, in their order, and `m` before the first of a greater base, behind lesser ones alone
 pub record AreMapsWith (m : Map) (old new : List Map) : Type 0 where
   pub before : List Map
   pub after : List Map

@@ -16,7 +16,7 @@ use Rattle.nova_model.specs.declared.delegation.Derivation.{Derivation}
 use Rattle.nova_range.specs.declared.range.Kind.TheVariants.{Mem}
 
 -- the state of a virtual CPU as its view has it: it is fresh, ready or dead, has this exit that is not sent, or waits for the reply to one, in the
--- one exactly where it does in the other
+-- view exactly where it does in the kernel
 pub record IsShownAs (s : State) (t : GuestState) : Type 0 where
   pub fresh : (s ≡ Fresh) ↔ (t ≡ guest.Fresh)
   pub ready : (s ≡ Ready) ↔ (t ≡ guest.Ready)

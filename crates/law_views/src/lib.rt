@@ -25,12 +25,11 @@ ghost use Rattle.law_views.specs.Given.{AreCellsWith, AreMapsWith, IsElseSame, g
 ghost use Rattle.law_views.specs.Said.{Answers, Completes, Delegates, IsOwnTurn, IsToldReply, Stores, TakesAway};
 ghost use Rattle.law_views.specs.Seen.{AreCellsOf, AreMapsOf, IsShownAs, IsViewOf};
 
-/// A view has the registers and the recall flag of the virtual CPU's context, and its state: it is
-/// fresh, ready or dead, has an exit that is not sent, with reason and both qualifications, or waits for
-/// the reply to one, exactly where the context does. Its maps are the memory derivations of its
-/// protection domain, all of them and nothing else, by rising base, each with range, rights and first
-/// frame. Its cells are the RAM frames that these maps lead to, by rising frame, with the bytes that the
-/// frames have. No other guest has all this.
+/// A view has the registers and the recall flag of the virtual CPU's context, and its state. It is fresh, ready
+/// or dead, has an exit that is not sent, with reason and both qualifications, or waits for the reply to one,
+/// exactly where the context does. Its maps are the memory derivations of its protection domain, all of them
+/// and nothing else, by rising base, each with range, rights and first frame. Its cells are the RAM frames that
+/// these maps lead to, by rising frame, with the bytes that the frames have. No other guest has all this.
 pub fn a_view_is_what_the_state_has()
     ensures registers { (k : KernelState) (g : ℕ) → (view k g).regs ≡ (context k g).regs }
     ensures recall { (k : KernelState) (g : ℕ) → (view k g).recall ≡ (context k g).recall }
@@ -40,15 +39,14 @@ pub fn a_view_is_what_the_state_has()
     ensures no_other { (k : KernelState) (g : ℕ) (v : Guest) → IsSound k → IsVirtual k g → IsViewOf k g v → v ≡ view k g }
 {}
 
-/// An input of a virtual CPU says what the one who acts does in that turn. A foreign store is that of
-/// another's instruction: its frame is the RAM frame that the address leads to there with the right to
-/// write, and one that the view covers, its offset is the address within the frame, and width and value
-/// are the instruction's. A recall is asked of this virtual CPU. A reply is to its exit and completes,
-/// names the groups that word 4 of the handler's message names, but for the qualifications, and has the
-/// words that the message has of them, and 0 for all others. What is given or taken is a memory
-/// derivation of its protection domain that is made or goes, with its range, rights, first frame and the
-/// bytes of its frames. Own, Sent and Died are turns in which it acts itself: a step or a raise; its
-/// exit is sent; or it ends.
+/// An input of a virtual CPU says what the context that acts does in that turn. A foreign store is that of
+/// another's instruction: its frame is the RAM frame that the address leads to there with the right to write,
+/// and one that the view covers, its offset is the address within the frame, and width and value are the
+/// instruction's. A recall is asked of this virtual CPU. A reply is to its exit and completes, names the groups
+/// that word 4 of the handler's message names, but for the qualifications, and has the words that the message
+/// has of them, and 0 for all others. What is given or taken is a memory derivation of its protection domain
+/// that is made or goes, with its range, rights, first frame and the bytes of its frames. Own, Sent and Died
+/// are turns in which it acts itself: a step or a raise; its exit is sent; or it ends.
 pub fn inputs_say_what_was_done()
     ensures stored { (k : KernelState) (cpu ec g frame offset width value : ℕ) → IsSound k → Acts k cpu ec
         → input k cpu g ≡ Some (Foreign frame offset width value) → Stores k ec g frame offset width value }
@@ -64,13 +62,13 @@ pub fn inputs_say_what_was_done()
     ensures died { (k : KernelState) (cpu ec g : ℕ) → Acts k cpu ec → input k cpu g ≡ Some Died → IsOwnTurn k ec g Died }
 {}
 
-/// What a virtual CPU does, and what others do to it, is told by inputs. Where it acts itself and is
-/// fresh or ready, that is Own, even where it changes nothing; where its exit is sent, Sent, and where
-/// it ends, Died; and nothing else of what it does is an input. A store of another to a RAM frame that
-/// its view covers is that store, even of bytes that are there already. A recall of it is a recall, even
-/// while one is asked for. A reply to its exit that completes is that reply, even where it changes no
-/// register. A memory derivation that is made in its protection domain or taken from it is that one. A
-/// turn in which nobody acts is no input.
+/// What a virtual CPU does, and what others do to it, is told by inputs. Where it acts itself and is fresh or
+/// ready, that is Own, even where it changes nothing; where its exit is sent, Sent, and where it ends, Died;
+/// and nothing else of what it does is an input. A store of another to a RAM frame that its view covers is that
+/// store, even of bytes that are there already. A recall of it is a recall, even while one is asked for. A
+/// reply to its exit that completes is that reply, even where it changes no register. A memory derivation that
+/// is made in its protection domain or taken from it is that input. A turn in which no context acts is no
+/// input.
 pub fn what_is_done_is_told()
     ensures own { (k : KernelState) (cpu g : ℕ) → IsSound k → IsVirtual k g → Acts k cpu g
         → acts (view k g).state ≡ true → input k cpu g ≡ Some Own }
@@ -100,12 +98,12 @@ pub fn inputs_of_turns_come_one_by_one()
     ensures more { (k : KernelState) (first later : List ℕ) (g : ℕ) → inputs k (first ++ later) g ≡ inputs k first g ++ inputs (run k first) later g }
 {}
 
-/// A map that is given to a guest, and overlaps none of its maps, leaves the cells that are there: a frame
-/// that has a cell keeps its bytes, whatever the contents are. A frame that has none gets its 4,096 bytes
-/// of the contents, where the map leads to it and contents of all its frames come; it has none where the
-/// map doesn't lead to it, or nothing comes. Cells rise by frame where they rose. The maps are the old
-/// ones, in their order, with the new one before the first of a greater base. Registers, recall flag and
-/// state stay and nothing is put out, even where the map overlaps one.
+/// A map that is given to a guest, and overlaps none of its maps, leaves the cells that are there. A frame that
+/// has a cell keeps its bytes, whatever the contents are. A frame that has none gets its 4,096 bytes of the
+/// contents, where the map leads to it and contents of all its frames come; it has none where the map doesn't
+/// lead to it, or nothing comes. Cells rise by frame where they rose. The maps are the old ones, in their
+/// order, with the new one before the first of a greater base. Registers, recall flag and state stay and
+/// nothing is put out, even where the map overlaps one.
 pub fn a_given_map_leaves_the_cells_that_are_there()
     ensures cells { (v : Guest) (m : Map) (contents : List ℕ) → admits v (given m contents) ≡ true
         → AreCellsWith m contents v.cells (applied v (given m contents)).guest.cells }

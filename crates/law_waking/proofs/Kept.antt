@@ -110,7 +110,7 @@ owed_on l i p ticket serving none later owed = record {
     still : put l.places i p owed.thread ≡ l.places owed.thread
     still = put_other l.places i owed.thread p apart
 
--- the same of one that is in line with the same ticket before and after
+-- the same of a thread that is in line with the same ticket before and after
 record IsInLine (l : Lock) (i t : ℕ) (p : Place) : Type 0 where
   before : ticket_of (l.places i) ≡ Some t
   owes : owing_of (l.places i) ≡ None
@@ -287,7 +287,7 @@ stores l i t s at = one_moves l i (Stored t) l.ticket (t + 1) s (record {
         let least = (s.line j u is).0 in
         let one = s.holds i t at in grind arith
 
-    -- whoever sleeps has a later ticket
+    -- a thread that sleeps has a later ticket
     beyond : (j u found : ℕ) → put l.places i (Stored t) j ≡ Sleeps u found → t + 1 < l.ticket
     beyond j u found is = decide i j _
         (λ same. absurd (let none = sym (put_itself l.places i j (Stored t) same) ∙ is in cc))
@@ -450,7 +450,7 @@ owing_awake l i t owes = record {
 owed_awake : (l : Lock) → IsOwed l → HasAwake l
 owed_awake l owed = owing_awake l owed.thread owed.ticket (owes_one l owed)
 
--- whoever is served
+-- the thread that is served
 served_awake : (l : Lock) (j : ℕ) (p : Place) → IsSound l → l.places j ≡ p → ticket_of p ≡ Some l.serving → HasAwake l
 served_awake l j (Looks t) s at line = record { thread = j; awake = λ u found is. let both = sym at ∙ is in cc; inside = λ is. let both = sym at ∙ is in cc }
 served_awake l j (Parks t f) s at line = record { thread = j; awake = λ u found is. let both = sym at ∙ is in cc; inside = λ is. let both = sym at ∙ is in cc }

@@ -39,7 +39,7 @@ called l i (Holds t) = record l { serving = t + 1; places = put l.places i (Stor
 called l i (Stored t) = record l { places = put l.places i (if l.ticket == t + 1 then Outside else Wakes t) }
 called l i (Wakes t) = record l { places = put (λ j. woken (l.places j)) i Outside }
 
--- thread i returns from a park though nobody woke it
+-- thread i returns from a park though none woke it
 abbrev pub roused : Lock → ℕ → Place → Lock
 roused l i (Sleeps t found) = record l { places = put l.places i (Looks t) }
 roused l i p = l

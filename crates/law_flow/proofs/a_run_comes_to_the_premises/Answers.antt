@@ -1,3 +1,4 @@
+use Rattle.law_flow.proofs.Deriving.{meets_revoking}
 use Rattle.law_flow.proofs.Meeting.{has_turn_next, meets_divided, meets_partitioned, meets_timeless}
 use Rattle.law_flow.proofs.a_run_comes_to_the_premises.Goals as goal
 
@@ -9,6 +10,9 @@ returns-clause-timeless c = meets_timeless
 
 pub returns-clause-divided : goal.returns-clause-divided
 returns-clause-divided c = meets_divided
+
+pub returns-clause-revoking : goal.returns-clause-revoking
+returns-clause-revoking c = meets_revoking
 
 pub returns-clause-acts : goal.returns-clause-acts
 returns-clause-acts c = has_turn_next

@@ -6,8 +6,8 @@ use Rattle.law_flow.proofs.Away.{home_runs}
 use Rattle.law_flow.proofs.noninterference_at_home.Goals as goal
 
 pub returns : goal.returns
-returns c = λ a b before since turns others S T U P C first second home abroad alike timed works same.
-    let ends = home_runs S P C turns others (run (boot a) before) (run (boot b) since) (Of T) (Of U)
+returns c = λ revokes a b before since turns others S T U P C first second home abroad alike timed takes works same.
+    let ends = home_runs revokes S P C turns others (run (boot a) before) (run (boot b) since) (Of T) (Of U)
     (record { reached = record { scenario = a; before = before; is = refl; part = first }; home = home }) works
-    (record { reached = record { scenario = b; before = since; is = refl; part = second }; home = abroad }) alike timed same in
+    (record { reached = record { scenario = b; before = since; is = refl; part = second }; home = abroad }) alike (record { timed = timed; within = takes }) same in
     record { part = ends.alike; times = ends.timed; deeds = ends.deeds; bytes = ends.bytes; events = ends.events }

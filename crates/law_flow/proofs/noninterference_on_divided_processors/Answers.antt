@@ -8,10 +8,10 @@ use Rattle.law_flow.proofs.Second.{there_second}
 use Rattle.law_flow.proofs.noninterference_on_divided_processors.Goals as goal
 
 pub returns : goal.returns
-returns c = λ a b before since turns others S T U P C first second divided also alike timed works same.
+returns c = λ revokes a b before since turns others S T U P C first second divided also alike timed takes works same.
     let goes : GoesHome (run (boot a) before) S P C (Of T) turns =
-    record { reached = record { scenario = a; before = before; is = refl; part = first }; home = home_along a before turns S P C (Of T) first divided works } in
-    let works_also = there_second b since others S P C (Of U) (run (boot a) before) (Of T) turns second also goes works alike timed same in
-    let ends = home_runs S P C turns others (run (boot a) before) (run (boot b) since) (Of T) (Of U) goes works
-    (record { reached = record { scenario = b; before = since; is = refl; part = second }; home = home_along b since others S P C (Of U) second also works_also }) alike timed same in
+    record { reached = record { scenario = a; before = before; is = refl; part = first }; home = home_along revokes a before turns S P C (Of T) first divided (λ yes. (takes yes).first) works } in
+    let works_also = there_second revokes b since others S P C (Of U) (run (boot a) before) (Of T) turns second also goes works alike (record { timed = timed; within = takes }) same in
+    let ends = home_runs revokes S P C turns others (run (boot a) before) (run (boot b) since) (Of T) (Of U) goes works
+    (record { reached = record { scenario = b; before = since; is = refl; part = second }; home = home_along revokes b since others S P C (Of U) second also (λ yes. (takes yes).second) works_also }) alike (record { timed = timed; within = takes }) same in
     record { part = ends.alike; times = ends.timed; deeds = ends.deeds; bytes = ends.bytes; events = ends.events }

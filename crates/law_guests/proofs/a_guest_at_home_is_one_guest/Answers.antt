@@ -4,7 +4,7 @@ use Rattle.law_guests.proofs.Comparing.{guests_home}
 use Rattle.law_guests.proofs.a_guest_at_home_is_one_guest.Goals as goal
 
 pub returns : goal.returns
-returns c = λ a b before since turns others S T U P C g first second home abroad alike timed works same virtual mine.
+returns c = λ revokes a b before since turns others S T U P C g first second home abroad alike timed takes works same virtual mine.
     guests_home (record {
       registers = c.a_view_is_what_the_state_has.ensures.registers;
       recall = c.a_view_is_what_the_state_has.ensures.recall;
@@ -20,6 +20,6 @@ returns c = λ a b before since turns others S T U P C g first second home abroa
       holds = c.two_guests_are_compared.ensures.holds;
       alone = c.two_guests_are_compared.ensures.alone;
       same = c.renamings_are_there.ensures.same;
-    }) a b before since turns others S P C (Of T) (Of U) g first
+    }) revokes a b before since turns others S P C (Of T) (Of U) g first
     (record { reached = record { scenario = a; before = before; is = refl; part = first }; home = home }) works
-    (record { reached = record { scenario = b; before = since; is = refl; part = second }; home = abroad }) alike timed same virtual mine
+    (record { reached = record { scenario = b; before = since; is = refl; part = second }; home = abroad }) alike (record { timed = timed; within = takes }) same virtual mine

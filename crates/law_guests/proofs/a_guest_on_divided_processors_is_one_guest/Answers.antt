@@ -22,7 +22,7 @@ returns-clause-order c = guests_divided (record {
 })
 
 pub returns-clause-number : goal.returns-clause-number
-returns-clause-number c = λ a b before since turns others S T U P cpu g first second divided also alike timed works count virtual mine.
+returns-clause-number c = λ revokes a b before since turns others S T U P cpu g first second divided also alike timed takes works count virtual mine.
     guests_divided (record {
       registers = c.a_view_is_what_the_state_has.ensures.registers;
       recall = c.a_view_is_what_the_state_has.ensures.recall;
@@ -38,4 +38,4 @@ returns-clause-number c = λ a b before since turns others S T U P cpu g first s
       holds = c.two_guests_are_compared.ensures.holds;
       alone = c.two_guests_are_compared.ensures.alone;
       same = c.renamings_are_there.ensures.same;
-    }) a b before since turns others S T U P (only cpu) g first second divided also alike timed works (one_order cpu turns others count) virtual mine
+    }) revokes a b before since turns others S T U P (only cpu) g first second divided also alike timed takes works (one_order cpu turns others count) virtual mine

@@ -6,7 +6,7 @@ use Rattle.law_sides.proofs.Respecting.{isolated_respects}
 use Rattle.law_sides.proofs.laws.isolation_is_respect_of_ties.Goals as goal
 
 pub returns-clause-respected : goal.returns-clause-respected
-returns-clause-respected c = isolated_respects
+returns-clause-respected c shared flows = isolated_respects
 
 pub returns-clause-isolated : goal.returns-clause-isolated
-returns-clause-isolated c s turns label all = respected_isolated (run (boot s) turns) label (reached_sound s turns).kept.tables all
+returns-clause-isolated c shared flows s turns label all = respected_isolated (run (boot s) turns) label (reached_sound s turns).kept.tables all
