@@ -3,8 +3,8 @@
 python3 tools/explore SCENARIO [--turns N] [--states N] [--elf FILE].. [--names FILE] [--output FOLDER] QUESTION [WORD ..]
 python3 tools/explore SCENARIO [--elf FILE].. [--names FILE] --words
 
-QUESTION is one of the program's: ends, blocked, dies [[but] EC], stuck EC, at PD ADDRESS [PD ADDRESS], text N TEXT, console N HEX, word FRAME OFFSET VALUE; or `word VARIABLE
-VALUE`, with a variable of the executable that `--elf` names, or VARIABLE+BYTES; or `asserts`: whether a `nova_assert` of that executable fails.
+QUESTION is one of the program's: ends, blocked, dies [[but] EC], stuck EC, hangs TURNS [EC], at PD ADDRESS [PD ADDRESS], text N TEXT, console N HEX, word FRAME OFFSET VALUE,
+stores FRAME FIRST LAST; or `word VARIABLE VALUE`, with a variable of the executable that `--elf` names, or VARIABLE+BYTES; or `stores VARIABLE`; or `asserts`: whether a `nova_assert` of that executable fails.
 EC may be a name too, of `--elf` or `--names`. `--words`, in place of a question, lists what has names.
 
 Orders that are told are written to a folder, NAME.orders for NAME.nova, after `nova solo` has replayed them. The status is the program's: 0 for
@@ -35,7 +35,7 @@ def parser() -> Parser:
     """The words of the tool."""
     words = Parser(prog="explore", description="Asks about all orders of turns of a scenario.")
     words.add_argument("scenario", type=Path, metavar="SCENARIO")
-    words.add_argument("question", nargs="*", metavar="QUESTION", help="ends, blocked, dies, stuck, at, text, console, word, asserts, and what belongs to it")
+    words.add_argument("question", nargs="*", metavar="QUESTION", help="ends, blocked, dies, stuck, hangs, at, text, console, word, stores, asserts, and what belongs to it")
     words.add_argument("--words", action="store_true", help="list what questions may name, and ask nothing")
     words.add_argument("--turns", metavar="N", help="the most turns of an order (1000000)")
     words.add_argument("--states", metavar="N", help="the most states that are expanded (20000)")
@@ -66,7 +66,7 @@ def remarks(question: Question, answer: Answer, rounds: Callable[[], str]) -> It
     word, *given = question.words
     if answer.absent is not None:
         yield f"EC {answer.absent} is never there"
-    elif answer.extent == "cut" and word in ("dies", "stuck") and given and number_of(given[-1]) not in states_in(rounds()):
+    elif answer.extent == "cut" and ((word in ("dies", "stuck") and given) or (word == "hangs" and len(given) == 2)) and number_of(given[-1]) not in states_in(rounds()):
         yield f"EC {given[-1]} isn't there after a run by rounds"
     if answer.extent == "cut":
         yield "--states N allows more, which take 40 to 80 KB each; with loops that try less often there are fewer"

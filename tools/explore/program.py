@@ -12,7 +12,7 @@ from pathlib import Path
 sys.path += [str(Path(__file__).resolve().parents[1] / name) for name in ("build", "picture")]
 
 from answers import ALL, CUT, FOUND, WITHIN, Answer, read_answer  # noqa: E402
-from questions import RESTS, Question, number_of, outcome_in  # noqa: E402
+from questions import RESTS, Question, number_of, outcome_in, reported  # noqa: E402
 
 from built import Missing, ended, find, there  # noqa: E402
 from failures import FAILED, failures, mark_of  # noqa: E402
@@ -104,6 +104,6 @@ class Replayer:
             report = self.report(scenario, outcome.order)
             if not report.startswith(RESTS):
                 found.append(f"outcome {number}: the run isn't over after the order that is told")
-            if outcome_in(report) != outcome.lines:
+            if outcome_in(report) != tuple(map(reported, outcome.lines)):
                 found.append(f"outcome {number}: the report of the order that is told has {outcome_in(report)}")
         return found

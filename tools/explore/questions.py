@@ -10,7 +10,7 @@ CONSOLE = re.compile(r"^console (\d+) ([0-9a-f]+)$", re.MULTILINE)
 RESTS = "run quiet "
 # How many words follow each word of a question; and of those the tool has beside them.
 OWN = {"asserts": (0,)}
-FORMS = {"console": (2,), "text": (2,), "word": (3,), "blocked": (0,), "dies": (0, 1, 2), "stuck": (1,), "at": (2, 4), "ends": (0,)}
+FORMS = {"console": (2,), "text": (2,), "word": (3,), "blocked": (0,), "dies": (0, 1, 2), "stuck": (1,), "hangs": (1, 2), "stores": (3,), "at": (2, 4), "ends": (0,)}
 
 
 def number_of(text: str) -> int:
@@ -26,6 +26,11 @@ def states_in(report: str) -> dict[int, str]:
 def shown_in(report: str, console: int) -> bytes:
     """What a console shows by a report."""
     return next((bytes.fromhex(digits) for number, digits in CONSOLE.findall(report) if int(number) == console), b"")
+
+
+def reported(line: str) -> str:
+    """A line of an outcome as far as a report tells it: of what an execution context waits for it tells nothing."""
+    return " ".join(line.split(" ")[:3]) if line.startswith("ec ") else line
 
 
 def outcome_in(report: str) -> tuple[str, ...]:

@@ -59,6 +59,18 @@ class Naming:
         frame, offset = frame_of(word, self.executable("a variable"))
         return str(frame), str(offset)
 
+    def bytes(self, word: str) -> list[str]:
+        """The frame of a variable, and its first and last byte there. Raises Refused or NoSymbol."""
+        executable = self.executable("a variable")
+        symbol = variables(executable).get(word)
+        if symbol is None:
+            raise Refused(f"{word} is no variable of {executable}")
+        frame, first = divmod(symbol.address, PAGE)
+        last = first + max(symbol.size, 1) - 1
+        if last >= PAGE:
+            raise Refused(f"{word} lies in more than one frame")
+        return [str(frame), str(first), str(last)]
+
 
 def number(text: str, least: int, most: int, what: str) -> str:
     """A number as the program takes it. Raises Refused where it is none, or out of its range."""
@@ -84,6 +96,8 @@ def question_of(words: Sequence[str], naming: Naming, rounds: Callable[[], str])
         raise Refused(f"{name!r} is no question: one of {', '.join(forms)} is wanted")
     if name == "word" and len(given) == 2:
         given = [*naming.place(given[0]), given[1]]
+    if name == "stores" and len(given) == 1:
+        given = naming.bytes(given[0])
     if len(given) not in forms[name]:
         wanted = " or ".join(map(str, forms[name]))
         raise Refused(f"{name} wants {wanted} words behind it, and has {len(given)}")
@@ -91,8 +105,15 @@ def question_of(words: Sequence[str], naming: Naming, rounds: Callable[[], str])
         return Question(("word", *map(str, mark_of(naming.executable("asserts"))), str(FAILED)))
     if name == "dies" and len(given) == 2 and given[0] != "but":
         raise Refused(f"dies wants one execution context, or `but` and one, and has {' '.join(given)}")
-    if name in ("dies", "stuck") and given:
+    if (name in ("dies", "stuck") and given) or (name == "hangs" and len(given) == 2):
         given = [*given[:-1], naming.context(given[-1], rounds())]
+    if name == "hangs":
+        number(given[0], 1, LIMITS["turns"], "TURNS")
+    if name == "stores":
+        ranges = ("FRAME", WORD_END - 1), ("FIRST", PAGE - 1), ("LAST", PAGE - 1)
+        given = [number(text, 0, most, what) for text, (what, most) in zip(given, ranges, strict=True)]
+        if number_of(given[1]) > number_of(given[2]):
+            raise Refused("FIRST stands behind LAST")
     if name == "at":
         given = [number(text, 0, WORD_END - 1, what) for text, what in zip(given, ("PD", "ADDRESS") * 2, strict=False)]
     if name == "word":
@@ -111,8 +132,8 @@ def listed(naming: Naming, report: str) -> Iterator[str]:
         for name, symbol in sorted(variables(executable).items(), key=lambda pair: pair[1].address):
             frame, offset = divmod(symbol.address, PAGE)
             rows.append([name, str(symbol.size), str(frame), f"{offset:#x}"])
-        yield f"{executable}: word VARIABLE VALUE, or VARIABLE+BYTES"
+        yield f"{executable}: word VARIABLE VALUE, or VARIABLE+BYTES; stores VARIABLE"
         yield from table(rows)
     contexts, names = parts_of(report).contexts, naming.names(report).by_number
-    yield "execution contexts, after a run by rounds: dies EC, stuck EC"
+    yield "execution contexts, after a run by rounds: dies EC, stuck EC, hangs TURNS EC"
     yield from table([["EC", "is", "name"], *([str(one.number), one.state, names.get(one.number, "-")] for one in contexts)])

@@ -34,7 +34,10 @@ def head_of(line: str, names: Names) -> tuple[str, str]:
     word, number, *rest = line.split(" ")
     if word == "console":
         return f"console {number}", as_text("" if rest[0] == "-" else rest[0])
-    said = rest[0] if word == "ec" else f"{rest[0]}" + ("" if rest[1] == "0" else f", {rest[1]} waiting")
+    if word == "ec":
+        said = " ".join([rest[0], *(names.of(int(waited), "SM" if rest[0] == "blocked" else "EC") for waited in rest[1:])])
+    else:
+        said = rest[0] + ("" if rest[1] == "0" else f", {rest[1]} waiting")
     return names.of(int(number), KINDS[word]), said
 
 

@@ -34,6 +34,14 @@ def clause_of(words: Sequence[str]) -> str:
             return f"domain {domain} is about to execute {address}"
         case ["at", first, here, second, there]:
             return f"domain {first} is about to execute {here} and domain {second} {there}"
+        case ["hangs", turns]:
+            return f"the run hangs for {turns} turns"
+        case ["hangs", turns, one]:
+            return f"{context(one)} hangs for {turns} turns"
+        case ["stores", variable]:
+            return f"a turn stores to {variable}"
+        case ["stores", frame, first, last]:
+            return f"a turn stores to the bytes {first} to {last} of frame {frame}"
         case ["stuck", one]:
             return f"the run ends and {context(one)} isn't dead"
         case ["text", console, text]:

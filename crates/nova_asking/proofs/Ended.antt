@@ -6,9 +6,8 @@ use Rattle.std.proofs.lemmas.List.{get_or-map, length-map, map-append}
 use Rattle.std.proofs.lemmas.List.Elements.{Contains-append_left, Contains-push, Contains-push_cases}
 use Rattle.nova_model.specs.Choice.{is_quiet}
 use Rattle.nova_model.specs.State.{KernelState}
-use Rattle.nova_search.specs.Searches.{state_at, state_of}
+use Rattle.nova_search.specs.Searches.{state_at}
 use Rattle.nova_search.specs.declared.found.Found.{Found}
-use Rattle.nova_search.proofs.Growth.{state_here}
 use Rattle.nova_asking.specs.Answers.{AreDistinct, EndsSo, IsEnd, outcomes}
 use Rattle.nova_asking.specs.Searched.{HaveOutcomes, HaveSoFar, IsPlaceOf, KeepEnds, LeadThere}
 use Rattle.nova_asking.specs.Outcomes.{outcome}
@@ -74,8 +73,8 @@ pushed_kept ends e new = record {
   once = λ once. subst AreDistinct (sym (outcomes_more ends e)) (distinct_more (outcomes ends) (outcome_of e) new once);
 }
 
-pub pushed_lead : (k : KernelState) (ends : List End) (e : End) → IsEnd k e → LeadThere k ends (ends ++ e ∷ [])
-pushed_lead k ends e is each = all_more (IsEnd k) ends e each is
+pub pushed_lead : (k : KernelState) (limit : ℕ) (ends : List End) (e : End) → IsEnd k limit e → LeadThere k limit ends (ends ++ e ∷ [])
+pushed_lead k limit ends e is each = all_more (IsEnd k limit) ends e each is
 
 pub pushed_there : (ends : List End) (e : End) (text : List ℕ) → outcome_of e ≡ text → Contains (outcomes (ends ++ e ∷ [])) text
 pushed_there ends e text same =
@@ -89,10 +88,9 @@ none_by ends es text t o is none same equal there =
     not (subst (λ (l : List End). Contains (outcomes l) t) (sym same) (subst (λ (x : List ℕ). Contains (outcomes ends) x) (sym equal) there))
 
 -- the outcome of the state at a place, as code reads it
-pub at_place : (found : List Found) (place : ℕ) (f : Found) (texts : List (List ℕ)) (text : List ℕ) → place < length found → f ≡ slice_index_or found place f →
-    text ≡ outcome (state_of f) → Contains texts text → (d : KernelState) → Contains texts (outcome (state_at found place d))
-at_place found place f texts text less is same there d =
-    subst (λ (t : List ℕ). Contains texts t) (same ∙ ap outcome (sym (state_here found place f d less is))) there
+pub at_place : (found : List Found) (place : ℕ) (texts : List (List ℕ)) (text : List ℕ) → ((d : KernelState) → text ≡ outcome (state_at found place d)) → Contains texts text →
+    (d : KernelState) → Contains texts (outcome (state_at found place d))
+at_place found place texts text same there d = subst (λ (t : List ℕ). Contains texts t) (same d) there
 
 -- where no end has an outcome, it isn't there
 pub none_there : (ends : List End) (i : ℕ) (text : List ℕ) → ((d : End) (j : ℕ) → j < i → outcome_of (slice_index_or ends j d) ≡ text → ⊥) → length ends ≤ i →

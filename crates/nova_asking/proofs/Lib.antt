@@ -3,4 +3,9 @@ pub mod Ranges
 pub mod Orders
 pub mod Found
 pub mod Told
+pub mod Answered
 pub mod Ended
+pub mod Coming
+pub mod Near
+pub mod Hung
+pub mod Due

@@ -1,12 +1,15 @@
 -- An order that is made turn by turn.
 use Rattle.std.proofs.Common.{◌≡◌, ◌∙◌, ℕ, zero, suc, ◌+◌, ◌<◌, List, [], ◌∷◌, ◌++◌, length, take, refl, ap, sym, arith}
 use Rattle.std.specs.Prelude.{slice_index_or, replicate}
-use Rattle.nova_order.specs.Blocks.{turns}
+use Rattle.nova_order.specs.Blocks.{IsOrder, turns}
 use Rattle.nova_order.specs.declared.block.Block.{Block}
 
 pub no_turns : turns [] ≡ []
 unfolding turns
 no_turns = refl
+
+pub no_blocks : IsOrder []
+no_blocks = record { counted = grind arith; merged = grind arith; fits = omega arith }
 
 take_on : (xs : List ℕ) (i : ℕ) → i < length xs → take (i + 1) xs ≡ take i xs ++ slice_index_or xs i 0 ∷ []
 take_on [] i less = absurd (omega (arith, less))

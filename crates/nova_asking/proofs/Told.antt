@@ -1,42 +1,35 @@
 -- From states that were found to orders.
-use Rattle.std.proofs.Common.{◌≡◌, ◌∙◌, ◌<◌, ◌≤◌, ℕ, List, [], ◌∷◌, refl, ap, sym, subst, length, arith}
+use Rattle.std.proofs.Common.{◌≡◌, ◌∙◌, ◌+◌, ◌<◌, ◌≤◌, ℕ, zero, suc, List, [], ◌∷◌, refl, ap, sym, subst, length, arith}
 use Rattle.std.specs.Prelude.{All, Bool, true, false, Option, Some, None, Result, Ok, Err, IfOk, IfSome, Contains, nat_lt, slice_index_or}
 use Rattle.std.proofs.lemmas.List.{length-map}
 use Rattle.std.proofs.lemmas.List.Elements.{All-contains, Contains-get_or}
 use Rattle.nova_model.specs.Choice.{is_quiet}
 use Rattle.nova_model.specs.Runs.{run}
 use Rattle.nova_model.specs.State.{KernelState}
-use Rattle.nova_order.specs.Blocks.{BlockList, turns}
+use Rattle.nova_order.specs.Blocks.{BlockList, IsOrder, turns}
+use Rattle.nova_order.specs.declared.block.Block.{Block}
 use Rattle.nova_search.specs.Searches.{AreAll, AreAllWithin, AreNearest, AreProcessors, IsFirst, IsFirstAt, IsReached, IsWay, state_at, state_of, states_of}
 use Rattle.nova_search.specs.declared.exploring.Explored.{Explored}
 use Rattle.nova_search.specs.declared.found.Found.{Found}
-use Rattle.nova_search.proofs.Growth.{state_here}
-use Rattle.nova_asking.specs.Answers.{AreEnds, AreFound, EndsSo, IsAbsent, IsCount, IsCovered, IsEndBy, IsFoundBy, IsNever, IsNeverBy, IsShortest, IsSometimeThere, IsWitness, extent_of}
+use Rattle.nova_search.proofs.Growth.{any_default}
+use Rattle.nova_asking.specs.Answers.{AreEnds, EndsSo, IsAbsent, IsCount, IsCovered, IsEndBy, IsFoundBy, IsNever, IsNeverBy, IsShort, IsShortest, IsSometimeThere, IsWitness, extent_of}
 use Rattle.nova_asking.specs.Outcomes.{outcome}
-use Rattle.nova_asking.specs.Questions.{has_context, is_so, named}
-use Rattle.nova_asking.specs.Searched.{AreFrom, BeginsIn, HaveOutcomes, IsMissing, IsPresent, IsSearch, unless_at}
+use Rattle.nova_asking.specs.Questions.{ahead, has_context, is_so, named}
+use Rattle.nova_asking.specs.Searched.{AreFew, AreFrom, BeginsIn, HaveOutcomes, IsMissing, IsPresent, IsSearch, unless_at}
 use Rattle.nova_asking.specs.declared.extent.Extent.{Extent}
 use Rattle.nova_asking.specs.declared.extent.Extent.TheVariants.{Cut}
 use Rattle.nova_asking.specs.declared.question.Question.{Question}
 
--- the state after each order that was gone along is among those that were found
-covered : (k : KernelState) (limit : ℕ) (states : List KernelState) (is_over is_whole : Bool) → (is_over ≡ true → AreAllWithin k limit states) →
-    (is_over ≡ true → is_whole ≡ true → AreAll k states) → (order : List ℕ) → IsCovered (extent_of is_over is_whole) k limit order → Contains states (run k order)
-covered k limit states true true within all order are = (all refl refl).each order are
-covered k limit states true false within all order are = (within refl).each order are.0 are.1
-covered k limit states false is_whole within all order are = absurd are
+-- the state after each order of an extent is among these
+abbrev pub GoAlong : Extent → KernelState → ℕ → List KernelState → Type 0
+GoAlong extent k limit states = (order : List ℕ) → IsCovered extent k limit order → Contains states (run k order)
 
-never : (q : Question) (k : KernelState) (limit : ℕ) (states : List KernelState) (is_over is_whole : Bool) → (is_over ≡ true → AreAllWithin k limit states) →
-    (is_over ≡ true → is_whole ≡ true → AreAll k states) → ((s : KernelState) → Contains states s → is_so q s ≡ false) → IsNever q k limit (extent_of is_over is_whole)
-never q k limit states is_over is_whole within all not = record {
-  each = λ order are. not (run k order) (covered k limit states is_over is_whole within all order are);
-}
-
-ended : (k : KernelState) (limit : ℕ) (states : List KernelState) (texts : List (List ℕ)) (is_over is_whole : Bool) → (is_over ≡ true → AreAllWithin k limit states) →
-    (is_over ≡ true → is_whole ≡ true → AreAll k states) → HaveOutcomes states texts → AreEnds k limit (extent_of is_over is_whole) texts
-ended k limit states texts is_over is_whole within all have = record {
-  each = λ order are quiet. have.each (run k order) (covered k limit states is_over is_whole within all order are) quiet;
-}
+-- so it is for what a search found that went as far or further
+pub covered : (k : KernelState) (limit reach : ℕ) (states : List KernelState) (is_over is_whole : Bool) → limit ≤ reach → (is_over ≡ true → AreAllWithin k reach states) →
+    (is_over ≡ true → is_whole ≡ true → AreAll k states) → GoAlong (extent_of is_over is_whole) k limit states
+covered k limit reach states true true far within all order are = (all refl refl).each order are
+covered k limit reach states true false far within all order are = (within refl).each order are.0 (let few = are.1 in omega (arith, few, far))
+covered k limit reach states false is_whole far within all order are = absurd are
 
 -- where a search is cut, it isn't over
 not_over : (is_over is_whole : Bool) → extent_of is_over is_whole ≡ Cut → is_over ≡ false
@@ -44,24 +37,29 @@ not_over true true is = absurd (cc)
 not_over true false is = absurd (cc)
 not_over false is_whole is = refl
 
-pub are_found : (test : KernelState → Bool) (k : KernelState) (limit most : ℕ) (e : Explored) (count : ℕ) → IsSearch test k limit most e → count ≡ length e.found.items → AreFound k count
-are_found test k limit most e count search same = record {
-  states = states_of e.found.items;
-  reached = search.reached;
-  number = length-map e.found.items state_of ∙ sym same;
-}
-
-pub counted : (test : KernelState → Bool) (k : KernelState) (limit most : ℕ) (e : Explored) (extent : Extent) (count : ℕ) → IsSearch test k limit most e → e.goal ≡ None →
-    extent ≡ extent_of e.is_over e.is_whole → count ≡ length e.found.items → IsCount k most extent count
-counted test k limit most e extent count search none is same = record {
-  found = are_found test k limit most e count search same;
-  more = λ cut. subst (λ (n : ℕ). most < n) (sym same) (search.more none (not_over e.is_over e.is_whole (sym is ∙ cut)));
-}
-
 -- a search for nothing has no goal
 pub no_goal : (states : List KernelState) (o : Option ℕ) → IsFirst (λ (s : KernelState). false) states o → (d : KernelState) → o ≡ None
 no_goal states (Some place) is d = let so : false ≡ true = is.passes d in absurd (cc)
 no_goal states None is d = refl
+
+module _ (test : KernelState → Bool) (k : KernelState) (limit reach most : ℕ) (e : Explored) (search : IsSearch test k reach most e) (far : limit ≤ reach) where
+  pub along : (extent : Extent) → extent ≡ extent_of e.is_over e.is_whole → GoAlong extent k limit (states_of e.found.items)
+  along extent is =
+      subst (λ (x : Extent). GoAlong x k limit (states_of e.found.items)) (sym is)
+      (covered k limit reach (states_of e.found.items) e.is_over e.is_whole far search.within search.all)
+
+  pub counted : (extent : Extent) (count : ℕ) → count ≡ length e.found.items → GoAlong extent k limit (states_of e.found.items) → (extent ≡ Cut → most < length e.found.items) →
+      IsCount k limit most extent count
+  counted extent count same along more = record {
+    states = states_of e.found.items;
+    seen = record { reached = search.reached; nearest = search.nearest };
+    there = along;
+    number = length-map e.found.items state_of ∙ sym same;
+    more = λ cut. subst (λ (n : ℕ). most < n) (sym same) (more cut);
+  }
+
+  pub more_where_cut : (extent : Extent) → e.goal ≡ None → extent ≡ extent_of e.is_over e.is_whole → extent ≡ Cut → most < length e.found.items
+  more_where_cut extent none is cut = search.more none (not_over e.is_over e.is_whole (sym is ∙ cut))
 
 pub ways_if : {E : Type 0} (found : List Found) (place : ℕ) (path : List ℕ) (r : Result BlockList E) → IfOk r (λ (order : BlockList). turns order.blocks ≡ path) →
     ((d : KernelState) → IsWay (state_at found 0 d) (state_at found place d) path) →
@@ -70,12 +68,24 @@ ways_if found place path (Ok order) same ways = λ d. subst (λ (o : List ℕ). 
 ways_if found place path (Err e) same ways = tt
 
 -- a way from the state that was found first
-way_from : (k : KernelState) (found : List Found) (place : ℕ) (order : List ℕ) → BeginsIn k found → ((d : KernelState) → IsWay (state_at found 0 d) (state_at found place d) order) →
+pub way_from : (k : KernelState) (found : List Found) (place : ℕ) (order : List ℕ) → BeginsIn k found → ((d : KernelState) → IsWay (state_at found 0 d) (state_at found place d) order) →
     (d : KernelState) → IsWay k (state_at found place d) order
 way_from k found place order first way d = subst (λ (s : KernelState). IsWay s (state_at found place d) order) (first d) (way d)
 
+-- a way has no more turns than the limit leaves
+pub short_by : (k s : KernelState) (limit : ℕ) (order : List ℕ) → IsWay k s order → s.turns ≤ limit → IsShort k limit order
+short_by k s limit order way few = let turns = way.turns in omega (arith, turns, few)
+
+pub short_at : (k : KernelState) (limit : ℕ) (found : List Found) (place : ℕ) (order : List ℕ) → BeginsIn k found → AreFew limit found → place < length found →
+    IsWay k (state_at found place k) order → IsShort k limit order
+short_at k limit found zero order first few there way =
+    let turns = way.turns in
+    let same = ap (λ (s : KernelState). s.turns) (first k) in
+    omega (arith, turns, same)
+short_at k limit found (suc place) order first few there way = short_by k (state_at found (suc place) k) limit order way (few (suc place) k (omega arith) there)
+
 -- no order of fewer turns leads to such a state than to the first one
-shortest : (holds : KernelState → Type 0) (k : KernelState) (states : List KernelState) (place : ℕ) (order : List ℕ) → AreNearest k states → place < length states →
+pub shortest : (holds : KernelState → Type 0) (k : KernelState) (states : List KernelState) (place : ℕ) (order : List ℕ) → AreNearest k states → place < length states →
     IsWay k (slice_index_or states place k) order → ((i : ℕ) (d : KernelState) → i < place → holds (slice_index_or states i d) → ⊥) → IsShortest holds k order
 shortest holds k states place order nearest there way none = record { each = λ other are is. by_test other are is (nat_lt (length other) (length order)) refl }
   where
@@ -87,29 +97,29 @@ shortest holds k states place order nearest there way none = record { each = λ 
         absurd (none before.its_place (run k other) before.before (subst holds (sym before.is) is))
     by_test other are is false less = grind (arith, less)
 
-witnessed : (q : Question) (k : KernelState) (found : List Found) (place : ℕ) (order : List ℕ) → AreFrom k found → IsFirstAt (is_so q) (states_of found) place →
-    ((d : KernelState) → IsWay (state_at found 0 d) (state_at found place d) order) → IsWitness q k order
-witnessed q k found place order from first ways = record {
+not_both : (b : Bool) → b ≡ true → b ≡ false → ⊥
+not_both b is not = absurd (cc)
+
+pub witnessed : (q : Question) (k : KernelState) (limit : ℕ) (found : List Found) (place : ℕ) (order : List ℕ) → AreNearest k (states_of found) → place < length found →
+    IsWay k (state_at found place k) order → IsShort k limit order → is_so q (state_at found place k) ≡ true →
+    ((i : ℕ) (d : KernelState) → i < place → is_so q (state_at found i d) ≡ false) → IsWitness q k limit order
+witnessed q k limit found place order nearest there way short is none = record {
   way = subst (λ (s : KernelState). IsWay k s order) way.state way;
-  is = subst (λ (s : KernelState). is_so q s ≡ true) way.state (first.passes k);
-  shortest = shortest (λ (s : KernelState). is_so q s ≡ true) k (states_of found) place order from.nearest first.there way
-      (λ i d less is. not_both (is_so q (state_at found i d)) is (first.none i d less));
+  short = short;
+  is = subst (λ (s : KernelState). is_so q s ≡ true) way.state is;
+  shortest = shortest (λ (s : KernelState). is_so q s ≡ true) k (states_of found) place order nearest (let long = length-map found state_of in omega (arith, there, long)) way
+      (λ i d less so. not_both (is_so q (state_at found i d)) so (none i d less));
 }
-  where
-    not_both : (b : Bool) → b ≡ true → b ≡ false → ⊥
-    not_both b is not = absurd (cc)
 
-    way : IsWay k (state_at found place k) order
-    way = way_from k found place order from.first ways k
-
-pub end_by : (k : KernelState) (found : List Found) (place : ℕ) (f : Found) (order text : List ℕ) → place < length found → f ≡ slice_index_or found place f → AreFrom k found →
+pub end_by : (k : KernelState) (limit : ℕ) (found : List Found) (place : ℕ) (order text : List ℕ) → place < length found → AreFrom k limit found →
     ((d : KernelState) → IsWay (state_at found 0 d) (state_at found place d) order) → ((d : KernelState) → is_quiet (state_at found place d) ≡ true) →
-    text ≡ outcome (state_of f) → ((i : ℕ) (d : KernelState) → i < place → EndsSo (state_at found i d) text → ⊥) → IsEndBy k order text
-end_by k found place f order text less is from ways quiet same none = record {
+    ((d : KernelState) → text ≡ outcome (state_at found place d)) → ((i : ℕ) (d : KernelState) → i < place → EndsSo (state_at found i d) text → ⊥) → IsEndBy k limit order text
+end_by k limit found place order text less from ways quiet same none = record {
   way = subst (λ (s : KernelState). IsWay k s order) way.state way;
+  short = short_at k limit found place order from.first from.few less way;
   ends = record {
     quiet = subst (λ (s : KernelState). is_quiet s ≡ true) way.state (quiet k);
-    outcome = same ∙ ap outcome (sym (state_here found place f k less is) ∙ way.state);
+    outcome = same k ∙ ap outcome way.state;
   };
   shortest = shortest (λ (s : KernelState). EndsSo s text) k (states_of found) place order from.nearest (let long = length-map found state_of in omega (arith, less, long)) way none;
 }
@@ -121,42 +131,41 @@ end_by k found place f order text less is from ways quiet same none = record {
 pub searched : (test : KernelState → Bool) (k : KernelState) (limit most : ℕ) (e : Explored) → All (IsReached k) (states_of e.found.items) → AreNearest k (states_of e.found.items) →
     IsFirst test (states_of e.found.items) e.goal → (e.is_over ≡ true → AreAllWithin k limit (states_of e.found.items)) →
     (e.is_over ≡ true → e.is_whole ≡ true → AreAll k (states_of e.found.items)) → (e.goal ≡ None → e.is_over ≡ false → most < length e.found.items) → BeginsIn k e.found.items →
-    IsSearch test k limit most e
-searched test k limit most e reached nearest goal within all more first =
-    record { reached = reached; nearest = nearest; goal = goal; within = within; all = all; more = more; first = first }
-
--- what is told of what a search found
-pub told_never : (q : Question) (k : KernelState) (limit most : ℕ) (e : Explored) (extent : Extent) → IsSearch (is_so q) k limit most e → e.goal ≡ None →
-    extent ≡ extent_of e.is_over e.is_whole → IsNever q k limit extent
-told_never q k limit most e extent search none is =
-    subst (λ (x : Extent). IsNever q k limit x) (sym is)
-    (never q k limit (states_of e.found.items) e.is_over e.is_whole search.within search.all
-    (subst (λ (o : Option ℕ). IsFirst (is_so q) (states_of e.found.items) o) none search.goal))
+    AreFew limit e.found.items → IsSearch test k limit most e
+searched test k limit most e reached nearest goal within all more first few =
+    record { reached = reached; nearest = nearest; goal = goal; within = within; all = all; more = more; first = first; few = few }
 
 -- of an execution context that a question names
-sometime : (k : KernelState) (states : List KernelState) (ec : ℕ) → All (IsReached k) states → IsPresent ec states → IsSometimeThere ec k
-sometime k states ec reached present =
-    let r = All-contains (IsReached k) states present.state reached present.there in
+sometime : (k : KernelState) (limit : ℕ) (found : List Found) (ec : ℕ) → All (IsReached k) (states_of found) → BeginsIn k found → AreFew limit found →
+    IsPresent ec (states_of found) → IsSometimeThere ec k limit
+sometime k limit found ec reached first few present =
+    let r = All-contains (IsReached k) (states_of found) present.state reached present.there in
     record {
       order = r.order;
       way = subst (λ (s : KernelState). IsWay k s r.order) r.way.state r.way;
+      short = short_at k limit found present.there.0 r.order first few (let less = present.there.1 in let long = length-map found state_of in omega (arith, less, long))
+          (subst (λ (s : KernelState). IsWay k s r.order) (sym (at_place k)) r.way);
       has = subst (λ (s : KernelState). has_context ec s ≡ true) r.way.state present.has;
     }
+  where
+    at_place : (d : KernelState) → state_at found present.there.0 d ≡ present.state
+    at_place d = any_default (states_of found) present.there.0 d present.state present.there.1 ∙ present.there.2
 
-absent_by : (q : Question) (k : KernelState) (limit most : ℕ) (e : Explored) (o : Option ℕ) → IsSearch (is_so q) k limit most e → IsMissing q (states_of e.found.items) o →
-    IsAbsent q k limit (extent_of e.is_over e.is_whole) o
-absent_by q k limit most e (Some ec) search (names, none) =
-    (names, record { each = λ order are. none (run k order) (covered k limit (states_of e.found.items) e.is_over e.is_whole search.within search.all order are) })
-absent_by q k limit most e None search present = λ ec is. sometime k (states_of e.found.items) ec search.reached (present ec is)
+absent_by : (q : Question) (k : KernelState) (limit reach : ℕ) (found : List Found) (extent : Extent) (o : Option ℕ) → reach ≡ limit + ahead q → All (IsReached k) (states_of found) →
+    BeginsIn k found → AreFew reach found → GoAlong extent k limit (states_of found) → IsMissing q (states_of found) o → IsAbsent q k limit extent o
+absent_by q k limit reach found extent (Some ec) same reached first few along (names, none) =
+    (names, record { each = λ order are. none (run k order) (along order are) })
+absent_by q k limit reach found extent None same reached first few along present =
+    λ ec is. subst (λ (n : ℕ). IsSometimeThere ec k n) same (sometime k reach found ec reached first few (present ec is))
 
-pub never_by : (q : Question) (k : KernelState) (limit most : ℕ) (e : Explored) (found : List Found) (extent : Extent) (states : ℕ) (absent : Option ℕ) →
-    IsSearch (is_so q) k limit most e → found ≡ e.found.items → e.goal ≡ None → extent ≡ extent_of e.is_over e.is_whole → states ≡ length found →
-    IsMissing q (states_of found) absent → IsNeverBy q k limit most extent states absent
-never_by q k limit most e found extent states absent search same none is many missing = record {
-  never = told_never q k limit most e extent search none is;
-  count = counted (is_so q) k limit most e extent states search none is (many ∙ ap length same);
-  absent = subst (λ (x : Extent). IsAbsent q k limit x absent) (sym is)
-      (absent_by q k limit most e absent search (subst (λ (l : List Found). IsMissing q (states_of l) absent) same missing));
+pub never_by : (test : KernelState → Bool) (q : Question) (k : KernelState) (limit reach most : ℕ) (e : Explored) (found : List Found) (extent : Extent) (states : ℕ) (absent : Option ℕ) →
+    IsSearch test k reach most e → reach ≡ limit + ahead q → found ≡ e.found.items → IsNever q k limit extent → GoAlong extent k limit (states_of e.found.items) →
+    (extent ≡ Cut → most < length e.found.items) → states ≡ length found → IsMissing q (states_of found) absent → IsNeverBy q k limit most extent states absent
+never_by test q k limit reach most e found extent states absent search far same never along more many missing = record {
+  never = never;
+  count = counted test k limit reach most e search (omega (arith, far)) extent states (many ∙ ap length same) along more;
+  absent = absent_by q k limit reach e.found.items extent absent far search.reached search.first search.few along
+      (subst (λ (l : List Found). IsMissing q (states_of l) absent) same missing);
 }
 
 pub none_named : (q : Question) (states : List KernelState) (o : Option ℕ) → o ≡ named q → o ≡ None → IsMissing q states None
@@ -176,19 +185,24 @@ pub missing_by : (q : Question) (ec : ℕ) (states : List KernelState) (o : Opti
 missing_by q ec states (Some place) is first = present_at q ec states place is first
 missing_by q ec states None is none = (is, none)
 
-pub told_found : (q : Question) (k : KernelState) (limit most : ℕ) (e : Explored) (found : List Found) (place : ℕ) (order : List ℕ) → IsSearch (is_so q) k limit most e →
-    found ≡ e.found.items → e.goal ≡ Some place → ((d : KernelState) → IsWay (state_at found 0 d) (state_at found place d) order) → IsWitness q k order
-told_found q k limit most e found place order search same some ways =
-    witnessed q k e.found.items place order (record { first = search.first; nearest = search.nearest })
-    (subst (λ (o : Option ℕ). IsFirst (is_so q) (states_of e.found.items) o) some search.goal)
-    (subst (λ (l : List Found). (d : KernelState) → IsWay (state_at l 0 d) (state_at l place d) order) same ways)
+-- the state at the end of a way from the first
+found_there : (k : KernelState) (found : List Found) (place : ℕ) (order : List ℕ) → place < length found → IsWay k (state_at found place k) order → Contains (states_of found) (run k order)
+found_there k found place order less way =
+    subst (λ (s : KernelState). Contains (states_of found) s) way.state
+    (Contains-get_or (states_of found) place k (let long = length-map found state_of in omega (arith, less, long)))
 
-pub found_by : (q : Question) (k : KernelState) (limit most : ℕ) (e : Explored) (found : List Found) (place states : ℕ) (order : List ℕ) → IsSearch (is_so q) k limit most e →
-    found ≡ e.found.items → e.goal ≡ Some place → states ≡ length found → ((d : KernelState) → IsWay (state_at found 0 d) (state_at found place d) order) →
-    IsFoundBy q k order states
-found_by q k limit most e found place states order search same some many ways = record {
-  leads = told_found q k limit most e found place order search same some ways;
-  found = are_found (is_so q) k limit most e states search (many ∙ ap length same);
+pub found_by : (q : Question) (k : KernelState) (limit : ℕ) (found : List Found) (place states : ℕ) (blocks : List Block) → IsOrder blocks → All (IsReached k) (states_of found) →
+    AreNearest k (states_of found) → states ≡ length found → place < length found → IsWay k (state_at found place k) (turns blocks) → IsShort k limit (turns blocks) →
+    is_so q (state_at found place k) ≡ true → ((i : ℕ) (d : KernelState) → i < place → is_so q (state_at found i d) ≡ false) → IsFoundBy q k limit blocks states
+found_by q k limit found place states blocks order reached nearest many there way short is none = record {
+  order = order;
+  leads = witnessed q k limit found place (turns blocks) nearest there way short is none;
+  found = record {
+    states = states_of found;
+    seen = record { reached = reached; nearest = nearest };
+    there = found_there k found place (turns blocks) there way;
+    number = length-map found state_of ∙ sym many;
+  };
 }
 
 -- where the place of what is looked for is
@@ -198,6 +212,8 @@ goal_there test found None is = tt
 
 pub told_ends : (test : KernelState → Bool) (k : KernelState) (limit most : ℕ) (e : Explored) (found : List Found) (texts : List (List ℕ)) (extent : Extent) → IsSearch test k limit most e →
     found ≡ e.found.items → HaveOutcomes (states_of found) texts → extent ≡ extent_of e.is_over e.is_whole → AreEnds k limit extent texts
-told_ends test k limit most e found texts extent search same have is =
-    subst (λ (x : Extent). AreEnds k limit x texts) (sym is)
-    (ended k limit (states_of e.found.items) texts e.is_over e.is_whole search.within search.all (subst (λ (l : List Found). HaveOutcomes (states_of l) texts) same have))
+told_ends test k limit most e found texts extent search same have is = record {
+  each = λ order are quiet.
+      (subst (λ (l : List Found). HaveOutcomes (states_of l) texts) same have).each (run k order)
+      (along test k limit limit most e search (omega arith) extent is order are) quiet;
+}

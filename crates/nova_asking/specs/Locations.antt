@@ -1,8 +1,9 @@
 -- Which instructions processors are about to execute.
-use Rattle.std.specs.Prelude.{ℕ, ◌==◌, ◌&&◌, Bool, true, false, not, Option, Some, None, option_map, slice_get}
+use Rattle.std.specs.Prelude.{ℕ, ◌==◌, ◌&&◌, Bool, true, false, not, Option, Some, None, is_some, option_map, slice_get}
 use Rattle.std.specs.List.{list_any, range_with_len}
-use Rattle.nova_model.specs.Choice.{Candidate, choice}
+use Rattle.nova_model.specs.Choice.{Candidate, next_to_act}
 use Rattle.nova_model.specs.State.{KernelState, context_at}
+use Rattle.nova_model.specs.Times.{due_on}
 use Rattle.nova_model.specs.declared.context.EcState.{EcState}
 use Rattle.nova_model.specs.declared.context.State.{State}
 use Rattle.nova_model.specs.declared.context.State.TheVariants.{Ready}
@@ -14,9 +15,13 @@ abbrev pub is_ready : State → Bool
 is_ready Ready = true
 is_ready other = false
 
--- an execution context is about to execute the instruction at an address: it is ready, and no recall is asked for
+-- an execution context is about to execute an instruction: it is ready, and no recall is asked for
+abbrev pub is_executing : EcState → Bool
+is_executing x = is_ready x.state && not x.recall
+
+-- that at an address
 abbrev pub is_going : EcState → ℕ → Bool
-is_going x address = (is_ready x.state && not x.recall) && (x.regs.pc == address)
+is_going x address = is_executing x && (x.regs.pc == address)
 
 -- it is of a protection domain
 abbrev pub is_of : Option Object → ℕ → Bool
@@ -37,11 +42,19 @@ abbrev pub is_at_by : KernelState → Location → Option ℕ → Bool
 is_at_by k location (Some ec) = is_there k location ec
 is_at_by k location None = false
 
--- the execution context that a processor has chosen is about to execute the instruction at a location
-abbrev pub is_at : KernelState → Location → ℕ → Bool
-is_at k location cpu = is_at_by k location (option_map (λ (c : Candidate). c.actor) (choice k cpu))
+-- something is due on a processor
+abbrev pub is_due : KernelState → ℕ → Bool
+is_due k cpu = is_some (due_on k.times cpu)
 
--- that of some processor is; of one but this; of two, each at its own
+-- the execution context that acts in a processor's next turn; nobody does where something is due first
+abbrev pub next_actor : KernelState → ℕ → Option ℕ
+next_actor k cpu = option_map (λ (c : Candidate). c.actor) (next_to_act k cpu)
+
+-- a processor is at a location: its next turn is the instruction there
+abbrev pub is_at : KernelState → Location → ℕ → Bool
+is_at k location cpu = is_at_by k location (next_actor k cpu)
+
+-- some processor is; one but this; two, each at its own
 abbrev pub some_is_at : KernelState → Location → Bool
 some_is_at k location = list_any (is_at k location) (range_with_len 0 k.cpus)
 

@@ -1,5 +1,5 @@
 -- What a search found, and what was seen of it.
-use Rattle.std.specs.Prelude.{◌≡◌, ℕ, ◌<◌, Bool, true, false, List, length, slice_index_or, All, Contains, Option, Some, None}
+use Rattle.std.specs.Prelude.{◌≡◌, ℕ, ◌<◌, ◌≤◌, Bool, true, false, List, length, slice_index_or, All, Contains, Option, Some, None}
 use Rattle.std.specs.List.{AllByRecursion}
 use Rattle.nova_model.specs.Choice.{is_quiet}
 use Rattle.nova_model.specs.State.{KernelState}
@@ -9,17 +9,25 @@ use Rattle.nova_search.specs.declared.found.Found.{Found}
 use Rattle.nova_asking.specs.Answers.{AreDistinct, IsEnd, outcomes}
 use Rattle.nova_asking.specs.Outcomes.{outcome}
 use Rattle.nova_asking.specs.Questions.{has_context, named}
+use Rattle.nova_asking.specs.declared.answer.Answer.{Answer}
+use Rattle.nova_asking.specs.declared.answer.Answer.TheVariants.{Found as FoundOrder, Never}
 use Rattle.nova_asking.specs.declared.ends.End.{End}
+use Rattle.nova_asking.specs.declared.extent.Extent.{Extent}
 use Rattle.nova_asking.specs.declared.question.Question.{Question}
 
 -- the state that was found first
 abbrev pub BeginsIn : KernelState → List Found → Type 0
 BeginsIn k found = (d : KernelState) → state_at found 0 d ≡ k
 
+-- no state but the first has taken more turns than the limit allows
+abbrev pub AreFew : ℕ → List Found → Type 0
+AreFew limit found = (place : ℕ) (d : KernelState) → 0 < place → place < length found → (state_at found place d).turns ≤ limit
+
 -- what a search from a state found, nearest first
-pub record AreFrom (k : KernelState) (found : List Found) : Type 0 where
+pub record AreFrom (k : KernelState) (limit : ℕ) (found : List Found) : Type 0 where
   pub first : BeginsIn k found
   pub nearest : AreNearest k (states_of found)
+  pub few : AreFew limit found
 
 -- a search from a state, for those that pass a test, found this
 pub record IsSearch (test : KernelState → Bool) (k : KernelState) (limit most : ℕ) (e : Explored) : Type 0 where
@@ -30,6 +38,7 @@ pub record IsSearch (test : KernelState → Bool) (k : KernelState) (limit most 
   pub all : e.is_over ≡ true → e.is_whole ≡ true → AreAll k (states_of e.found.items)
   pub more : e.goal ≡ None → e.is_over ≡ false → most < length e.found.items
   pub first : BeginsIn k e.found.items
+  pub few : AreFew limit e.found.items
 
 -- an execution context is in one of the states
 pub record IsPresent (ec : ℕ) (states : List KernelState) : Type 0 where
@@ -41,6 +50,11 @@ pub record IsPresent (ec : ℕ) (states : List KernelState) : Type 0 where
 abbrev pub IsMissing : Question → List KernelState → Option ℕ → Type 0
 IsMissing q states (Some ec) = (named q ≡ Some ec) × ((s : KernelState) → Contains states s → has_context ec s ≡ false)
 IsMissing q states None = (ec : ℕ) → named q ≡ Some ec → IsPresent ec states
+
+-- an answer that nothing was found, of a search of this extent
+abbrev pub IsUnfound : Question → List Found → Extent → Answer → Type 0
+IsUnfound q found extent (FoundOrder order states) = ⊥
+IsUnfound q found extent (Never e states absent) = (e ≡ extent) × (states ≡ length found) × IsMissing q (states_of found) absent
 
 abbrev pub unless_at : Option ℕ → ℕ → Option ℕ
 unless_at (Some place) ec = None
@@ -65,5 +79,5 @@ pub record KeepEnds (old new : List End) : Type 0 where
   pub outcomes : (text : List ℕ) → Contains (outcomes old) text → Contains (outcomes new) text
 
 -- orders of ends lead there from a state
-abbrev pub LeadThere : KernelState → List End → List End → Type 0
-LeadThere k old new = AllByRecursion (IsEnd k) old → AllByRecursion (IsEnd k) new
+abbrev pub LeadThere : KernelState → ℕ → List End → List End → Type 0
+LeadThere k limit old new = AllByRecursion (IsEnd k limit) old → AllByRecursion (IsEnd k limit) new

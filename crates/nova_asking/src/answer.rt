@@ -1,11 +1,12 @@
-ghost use Rattle.std.specs.Prelude.{◌≡◌, ◌^◌, ◌<◌, ◌≤◌, ℕ, length, IfOk, IfSome};
+ghost use Rattle.std.specs.Prelude.{◌≡◌, ◌+◌, ◌^◌, ◌<◌, ◌≤◌, ℕ, length, IfOk, IfSome};
 ghost use Rattle.nova_model.specs.State.{KernelState};
 ghost use Rattle.nova_search.specs.Searches.{AreLinked, states_of};
 ghost use Rattle.nova_asking.specs.Answers.{IsAnswer};
-ghost use Rattle.nova_asking.specs.Questions.{IsApt, is_so};
-ghost use Rattle.nova_asking.specs.Searched.{IsMissing, IsSearch, unless_at};
+ghost use Rattle.nova_asking.specs.Questions.{IsApt, IsOfState, ahead, is_so};
+ghost use Rattle.nova_asking.specs.Searched.{BeginsIn, IsMissing, IsSearch, IsUnfound, unless_at};
 
 use crate::extent::Extent;
+use crate::hang::judge_hang;
 use crate::path::order_to;
 use crate::presence::Presence;
 use crate::question::Question;
@@ -17,7 +18,7 @@ use std::alloc::{AllocError, Global};
 /// What a search answers to a question.
 #[derive(Drop)]
 pub enum Answer {
-    /// This order leads to a state that is so. So many states were found until then.
+    /// This order leads to a state that is so. So many states were found.
     Found {
         order: Order,
         states: usize,
@@ -45,45 +46,71 @@ fn unless_at(place: Option<usize>, ec: u32) -> Option<u32>
     }
 }
 
-/// The execution context that a question names, where it is in none of the states that were found.
-fn absent_in(alloc: Global, question: &Question, found: &[Found]) -> Result<Option<u32>, AllocError>
+/// The execution context that a question names, where it is in none of the states that were found from `opening`.
+fn absent_in(
+    alloc: Global,
+    opening: &Vertex,
+    question: &Question,
+    found: &[Found],
+) -> Result<Option<u32>, AllocError>
+    requires linked { AreLinked found.now }
+    requires first { BeginsIn opening.now found.now }
     ensures { IfOk result (IsMissing question.now (states_of found.now)) }
 {
     let Some(ec) = question.named() else {
         return Ok(None);
     };
-    let place = first_goal(alloc, found, 0, &Presence { ec })?;
+    let place = first_goal(alloc, opening, found, &Presence { ec })?;
     Ok(unless_at(place, ec))
 }
 
-/// What is answered to a question by the states that a search for it found.
-fn answered(alloc: Global, question: &Question, explored: &Explored) -> Result<Answer, AllocError>
+/// What is answered where no order that a search of this extent from `opening` went along leads to what was asked for.
+pub(crate) fn unfound(
+    alloc: Global,
+    opening: &Vertex,
+    question: &Question,
+    found: &[Found],
+    extent: Extent,
+) -> Result<Answer, AllocError>
+    requires linked { AreLinked found.now }
+    requires first { BeginsIn opening.now found.now }
+    ensures { IfOk result (IsUnfound question.now found.now extent) }
+{
+    let absent = absent_in(alloc, opening, question, found)?;
+    Ok(Answer::Never {
+        extent,
+        states: found.len(),
+        absent,
+    })
+}
+
+/// What is answered to a question by the states that a search for it from `opening` found.
+fn answered(
+    alloc: Global,
+    opening: &Vertex,
+    question: &Question,
+    explored: &Explored,
+) -> Result<Answer, AllocError>
     requires linked { AreLinked explored.now.found.items }
+    requires first { BeginsIn opening.now explored.now.found.items }
     requires there { IfSome explored.now.goal (λ place. place < length explored.now.found.items) }
+    requires is { IsOfState question.now }
     ensures { (k : KernelState) (limit most : ℕ) → IsSearch (is_so question.now) k limit most explored.now → IfOk result (IsAnswer question.now k limit most) }
 {
     let found = explored.found.as_slice();
-    let states = found.len();
-    match explored.goal {
-        Some(place) => {
-            let order = order_to(alloc, found, place)?;
-            Ok(Answer::Found { order, states })
-        }
-        None => {
-            let extent = Extent::of(explored.is_over, explored.is_whole);
-            let absent = absent_in(alloc, question, found)?;
-            Ok(Answer::Never {
-                extent,
-                states,
-                absent,
-            })
-        }
-    }
+    let Some(place) = explored.goal else {
+        let extent = Extent::of(explored.is_over, explored.is_whole);
+        return unfound(alloc, opening, question, found, extent);
+    };
+    let order = order_to(alloc, found, place)?;
+    Ok(Answer::Found {
+        order,
+        states: found.len(),
+    })
 }
 
-/// What a search from `opening` answers to a question: along orders after which at most `limit` turns were taken, counted from its
-/// boot, and with at most `most` states expanded. It ends at the first state that is so. The limit is at most 2^31.
-pub fn judge(
+/// What a search answers to a question on states. It ends at the first state that is so.
+fn judge_states(
     alloc: Global,
     opening: &Vertex,
     limit: u64,
@@ -91,11 +118,32 @@ pub fn judge(
     question: &Question,
 ) -> Result<Answer, AllocError>
     requires limit { limit ≤ 2 ^ 31 }
-    requires apt { IsApt question.now }
+    requires is { IsOfState question.now }
     ensures { IfOk result (IsAnswer question.now opening.now limit most) }
 {
     let explored = explore(alloc, opening, limit, most, question)?;
-    let answer = answered(alloc, question, &explored);
+    let answer = answered(alloc, opening, question, &explored);
     let_go(explored);
     answer
+}
+
+/// What a search from `opening` answers to a question: along orders after which at most `limit` turns were taken, counted from its
+/// boot, and with at most `most` states expanded. The limit, with the turns that the question looks ahead, is at most 2^31.
+pub fn judge(
+    alloc: Global,
+    opening: &Vertex,
+    limit: u64,
+    most: usize,
+    question: &Question,
+) -> Result<Answer, AllocError>
+    requires limit { limit + ahead question.now ≤ 2 ^ 31 }
+    requires apt { IsApt question.now }
+    ensures { IfOk result (IsAnswer question.now opening.now limit most) }
+{
+    match question {
+        Question::Hangs { turns, aim } => {
+            judge_hang(alloc, opening, limit, most, question, *turns, *aim)
+        }
+        _ => judge_states(alloc, opening, limit, most, question),
+    }
 }

@@ -4,21 +4,21 @@ ghost use Rattle.nova_asking.specs.Questions.{is_dead, is_left, is_other_dead, i
 
 use nova_kernel::{Kernel, State};
 
-/// Whether a state is that of waiting at a semaphore.
+/// Whether `state` is that of waiting at a semaphore.
 fn is_waiting(state: State) -> bool
     ensures { result ≡ is_waiting state }
 {
     matches!(state, State::Blocked(_))
 }
 
-/// Whether a state is that of being dead.
+/// Whether `state` is that of being dead.
 fn is_over(state: State) -> bool
     ensures { result ≡ is_over state }
 {
     matches!(state, State::Dead)
 }
 
-/// Whether the execution context of a number is there, and waits at a semaphore.
+/// Whether the execution context `ec` is there, and waits at a semaphore.
 fn waits(kernel: &Kernel, ec: u32) -> bool
     ensures { result ≡ waits (context_at kernel.now.state ec) }
 {
@@ -28,7 +28,7 @@ fn waits(kernel: &Kernel, ec: u32) -> bool
     }
 }
 
-/// Whether the execution context of a number is there, and dead.
+/// Whether the execution context `ec` is there, and dead.
 pub(crate) fn is_dead(kernel: &Kernel, ec: u32) -> bool
     ensures { result ≡ is_dead (context_at kernel.now.state ec) }
 {
@@ -38,7 +38,7 @@ pub(crate) fn is_dead(kernel: &Kernel, ec: u32) -> bool
     }
 }
 
-/// Whether the execution context of a number is there, and not dead.
+/// Whether the execution context `ec` is there, and not dead.
 pub(crate) fn is_left(kernel: &Kernel, ec: u32) -> bool
     ensures { result ≡ is_left (context_at kernel.now.state ec) }
 {
@@ -72,14 +72,14 @@ pub(crate) fn some_is_dead(kernel: &Kernel) -> bool
     false
 }
 
-/// Whether the execution context of a number is dead, and not that of another number.
+/// Whether the execution context `n` is dead, and not `ec`.
 fn is_other_dead(kernel: &Kernel, ec: u32, n: u32) -> bool
     ensures { result ≡ is_other_dead ec kernel.now.state n }
 {
     n != ec && is_dead(kernel, n)
 }
 
-/// Whether some execution context of another number is dead.
+/// Whether some execution context other than `ec` is dead.
 pub(crate) fn some_other_is_dead(kernel: &Kernel, ec: u32) -> bool
     ensures { result ≡ some_other_is_dead ec kernel.now.state }
 {

@@ -6,7 +6,7 @@ ghost use Rattle.nova_model.specs.State.{KernelState};
 ghost use Rattle.nova_search.specs.Searches.{AreLinked, state_at, states_of};
 ghost use Rattle.nova_asking.specs.Answers.{AreDistinct, AreEnds, IsCount, IsEnd, outcomes};
 ghost use Rattle.nova_asking.specs.Outcomes.{outcome};
-ghost use Rattle.nova_asking.specs.Searched.{AreFrom, HaveOutcomes, HaveSoFar, IsPlaceOf, IsSearch, KeepEnds, LeadThere};
+ghost use Rattle.nova_asking.specs.Searched.{AreFrom, BeginsIn, HaveOutcomes, HaveSoFar, IsPlaceOf, IsSearch, KeepEnds, LeadThere};
 
 use crate::answer::let_go;
 use crate::extent::Extent;
@@ -14,7 +14,7 @@ use crate::outcome::outcome_of;
 use crate::path::order_to;
 use nova_compare::Vertex;
 use nova_order::Order;
-use nova_search::{Explored, Found, NoGoal, explore};
+use nova_search::{Explored, Found, NoGoal, explore, kernel_at};
 use std::alloc::{AllocError, Global};
 
 /// An outcome of a run, an order that ends in it, and in how many of the states that were found a run ends so.
@@ -64,27 +64,45 @@ fn place_of(ends: &[End], outcome: &[u8]) -> Option<usize>
 fn count(ends: &mut Vec<End>, at: usize)
     requires { at < length ends.old.items }
     ensures outcomes { outcomes ends.new.items ≡ outcomes ends.old.items }
-    ensures lead { (k : KernelState) → LeadThere k ends.old.items ends.new.items }
+    ensures lead { (k : KernelState) (limit : ℕ) → LeadThere k limit ends.old.items ends.new.items }
 {
     ends[at].states = ends[at].states.saturating_add(1);
+}
+
+/// The outcome of the state at a place of what was found from `opening`.
+fn outcome_at(
+    alloc: Global,
+    opening: &Vertex,
+    found: &[Found],
+    place: usize,
+) -> Result<Vec<u8>, AllocError>
+    requires place { place < length found.now }
+    requires linked { AreLinked found.now }
+    requires first { BeginsIn opening.now found.now }
+    ensures { IfOk result (λ text. (d : KernelState) → text.items ≡ outcome (state_at found.now place d)) }
+{
+    let kernel = kernel_at(alloc, opening, found, place)?;
+    outcome_of(alloc, &kernel)
 }
 
 /// Enters the outcome of the state at a place, in which a run has ended, among ends, unless it is there.
 fn enter(
     alloc: Global,
+    opening: &Vertex,
     found: &[Found],
     place: usize,
     ends: &mut Vec<End>,
 ) -> Result<(), AllocError>
     requires place { place < length found.now }
     requires linked { AreLinked found.now }
+    requires first { BeginsIn opening.now found.now }
     requires have { HaveSoFar (states_of found.now) place (outcomes ends.old.items) }
     requires quiet { (d : KernelState) → is_quiet (state_at found.now place d) ≡ true }
     ensures kept { OnOk result (KeepEnds ends.old.items ends.new.items) }
-    ensures lead { OnOk result ((k : KernelState) → AreFrom k found.now → LeadThere k ends.old.items ends.new.items) }
+    ensures lead { OnOk result ((k : KernelState) (limit : ℕ) → AreFrom k limit found.now → LeadThere k limit ends.old.items ends.new.items) }
     ensures there { OnOk result ((d : KernelState) → Contains (outcomes ends.new.items) (outcome (state_at found.now place d))) }
 {
-    let outcome = outcome_of(alloc, found[place].vertex.kernel())?;
+    let outcome = outcome_at(alloc, opening, found, place)?;
     if let Some(at) = place_of(ends, &outcome) {
         count(ends, at);
         return Ok(());
@@ -99,46 +117,55 @@ fn enter(
 }
 
 /// Enters the outcome of the state at a place among ends, where a run has ended in it.
-fn see(alloc: Global, found: &[Found], place: usize, ends: &mut Vec<End>) -> Result<(), AllocError>
+fn see(
+    alloc: Global,
+    opening: &Vertex,
+    found: &[Found],
+    place: usize,
+    ends: &mut Vec<End>,
+) -> Result<(), AllocError>
     requires place { place < length found.now }
     requires linked { AreLinked found.now }
+    requires first { BeginsIn opening.now found.now }
     requires have { HaveSoFar (states_of found.now) place (outcomes ends.old.items) }
     ensures kept { OnOk result (KeepEnds ends.old.items ends.new.items) }
-    ensures lead { OnOk result ((k : KernelState) → AreFrom k found.now → LeadThere k ends.old.items ends.new.items) }
+    ensures lead { OnOk result ((k : KernelState) (limit : ℕ) → AreFrom k limit found.now → LeadThere k limit ends.old.items ends.new.items) }
     ensures there { OnOk result ((d : KernelState) → is_quiet (state_at found.now place d) ≡ true → Contains (outcomes ends.new.items) (outcome (state_at found.now place d))) }
 {
-    if !found[place].vertex.kernel().quiet() {
+    if !found[place].has_ended {
         return Ok(());
     }
-    enter(alloc, found, place, ends)
+    enter(alloc, opening, found, place, ends)
 }
 
-/// The outcomes of the states that were found.
-fn gather(alloc: Global, found: &[Found]) -> Result<Vec<End>, AllocError>
-    requires { AreLinked found.now }
-    ensures each { IfOk result (λ ends. (k : KernelState) → AreFrom k found.now → AllByRecursion (IsEnd k) ends.items) }
+/// The outcomes of the states that were found from `opening`.
+fn gather(alloc: Global, opening: &Vertex, found: &[Found]) -> Result<Vec<End>, AllocError>
+    requires linked { AreLinked found.now }
+    requires first { BeginsIn opening.now found.now }
+    ensures each { IfOk result (λ ends. (k : KernelState) (limit : ℕ) → AreFrom k limit found.now → AllByRecursion (IsEnd k limit) ends.items) }
     ensures all { IfOk result (λ ends. HaveOutcomes (states_of found.now) (outcomes ends.items)) }
     ensures once { IfOk result (λ ends. AreDistinct (outcomes ends.items)) }
 {
     let mut ends = Vec::new(alloc);
     for place in 0..found.len() {
-        see(alloc, found, place, &mut ends)?;
+        see(alloc, opening, found, place, &mut ends)?;
     }
     Ok(ends)
 }
 
-/// The outcomes of the states that a search found.
-fn ends_of(alloc: Global, explored: &Explored) -> Result<Ends, AllocError>
-    requires { AreLinked explored.now.found.items }
-    ensures each { (k : KernelState) (limit most : ℕ) → IsSearch (λ _. false) k limit most explored.now → IfOk result (λ e. AllByRecursion (IsEnd k) e.ends.items) }
+/// The outcomes of the states that a search from `opening` found.
+fn ends_of(alloc: Global, opening: &Vertex, explored: &Explored) -> Result<Ends, AllocError>
+    requires linked { AreLinked explored.now.found.items }
+    requires first { BeginsIn opening.now explored.now.found.items }
+    ensures each { (k : KernelState) (limit most : ℕ) → IsSearch (λ _. false) k limit most explored.now → IfOk result (λ e. AllByRecursion (IsEnd k limit) e.ends.items) }
     ensures all { (k : KernelState) (limit most : ℕ) → IsSearch (λ _. false) k limit most explored.now → IfOk result (λ e. AreEnds k limit e.extent (outcomes e.ends.items)) }
     ensures once { IfOk result (λ e. AreDistinct (outcomes e.ends.items)) }
-    ensures states { (k : KernelState) (limit most : ℕ) → IsSearch (λ _. false) k limit most explored.now → IfOk result (λ e. IsCount k most e.extent e.states) }
+    ensures states { (k : KernelState) (limit most : ℕ) → IsSearch (λ _. false) k limit most explored.now → IfOk result (λ e. IsCount k limit most e.extent e.states) }
 {
     let found = explored.found.as_slice();
     let extent = Extent::of(explored.is_over, explored.is_whole);
     let states = found.len();
-    let ends = gather(alloc, found)?;
+    let ends = gather(alloc, opening, found)?;
     Ok(Ends {
         ends,
         extent,
@@ -155,13 +182,13 @@ pub fn list_ends(
     most: usize,
 ) -> Result<Ends, AllocError>
     requires { limit ≤ 2 ^ 31 }
-    ensures each { IfOk result (λ e. AllByRecursion (IsEnd opening.now) e.ends.items) }
+    ensures each { IfOk result (λ e. AllByRecursion (IsEnd opening.now limit) e.ends.items) }
     ensures all { IfOk result (λ e. AreEnds opening.now limit e.extent (outcomes e.ends.items)) }
     ensures once { IfOk result (λ e. AreDistinct (outcomes e.ends.items)) }
-    ensures states { IfOk result (λ e. IsCount opening.now most e.extent e.states) }
+    ensures states { IfOk result (λ e. IsCount opening.now limit most e.extent e.states) }
 {
     let explored = explore(alloc, opening, limit, most, &NoGoal)?;
-    let ends = ends_of(alloc, &explored);
+    let ends = ends_of(alloc, opening, &explored);
     let_go(explored);
     ends
 }

@@ -1,5 +1,5 @@
 ghost use Rattle.std.specs.Prelude.{◌≡◌};
-ghost use Rattle.nova_asking.specs.Locations.{another_is_at, is_at, is_going, is_in, is_ready, is_there, some_is_at, two_are_at};
+ghost use Rattle.nova_asking.specs.Locations.{another_is_at, is_at, is_due, is_executing, is_going, is_in, is_ready, is_there, next_actor, some_is_at, two_are_at};
 
 use crate::question::Location;
 use nova_kernel::{EcState, Kernel, Object, State};
@@ -11,11 +11,18 @@ fn is_ready(state: State) -> bool
     matches!(state, State::Ready)
 }
 
+/// Whether an execution context is about to execute an instruction.
+pub(crate) fn is_executing(context: &EcState) -> bool
+    ensures { result ≡ is_executing context.now }
+{
+    is_ready(context.state) && !context.recall
+}
+
 /// Whether an execution context is about to execute the instruction at an address.
 fn is_going(context: &EcState, address: u32) -> bool
     ensures { result ≡ is_going context.now address }
 {
-    is_ready(context.state) && !context.recall && context.regs.pc() == address
+    is_executing(context) && context.regs.pc() == address
 }
 
 /// Whether an execution context is of a protection domain.
@@ -38,11 +45,33 @@ fn is_there(kernel: &Kernel, ec: u32, location: Location) -> bool
     }
 }
 
+/// Whether something is due on a processor.
+#[tactic(auto, using(crate::proofs::Due::due_when, crate::proofs::Due::never_due))]
+fn is_due(kernel: &Kernel, cpu: u32) -> bool
+    ensures { result ≡ is_due kernel.now.state cpu }
+{
+    match kernel.until_due(cpu) {
+        Some(left) => left == 0,
+        None => false,
+    }
+}
+
+/// The execution context that acts in a processor's next turn; none where it is idle, or something is due first.
+#[tactic(auto, using(crate::proofs::Due::nobody_where_due, crate::proofs::Due::chosen_where_not))]
+pub(crate) fn next_actor(kernel: &Kernel, cpu: u32) -> Option<u32>
+    ensures { result ≡ next_actor kernel.now.state cpu }
+{
+    if is_due(kernel, cpu) {
+        return None;
+    }
+    kernel.actor(cpu)
+}
+
 /// Whether a processor is about to execute the instruction at a location.
 fn is_at(kernel: &Kernel, cpu: u32, location: Location) -> bool
     ensures { result ≡ is_at kernel.now.state location cpu }
 {
-    match kernel.actor(cpu) {
+    match next_actor(kernel, cpu) {
         Some(ec) => is_there(kernel, ec, location),
         None => false,
     }

@@ -1,9 +1,32 @@
 ghost use Rattle.std.specs.Prelude.{◌≡◌, ◌++◌, IfOk, OnOk, string_bytes};
-ghost use Rattle.nova_asking.specs.Outcomes.{outcome, state_lines, state_of};
+ghost use Rattle.nova_asking.specs.Outcomes.{number_word, outcome, state_lines, state_of, waits_for};
 
-use nova_kernel::Kernel;
+use nova_kernel::{Kernel, State};
 use nova_report::{state_word, write_consoles, write_semaphores};
 use std::alloc::{AllocError, Global};
+
+/// The semaphore, or the handler, that an execution context waits for in a state.
+fn waits_for(state: State) -> Option<u32>
+    ensures { result ≡ waits_for state }
+{
+    match state {
+        State::Blocked(sm) => Some(sm),
+        State::Calling(handler) | State::Helping(handler) | State::Sending(_, _, _, handler) => {
+            Some(handler)
+        }
+        _ => None,
+    }
+}
+
+/// A number behind a space, where there is one.
+fn write_number(out: &mut String, number: Option<u32>) -> Result<(), AllocError>
+    ensures { OnOk result (string_bytes out.new ≡ string_bytes out.old ++ number_word number) }
+{
+    match number {
+        Some(n) => write!(out, " {n}"),
+        None => Ok(()),
+    }
+}
 
 /// A line for the execution context of a number, where there is one.
 fn write_state(out: &mut String, kernel: &Kernel, id: u32) -> Result<(), AllocError>
@@ -12,7 +35,9 @@ fn write_state(out: &mut String, kernel: &Kernel, id: u32) -> Result<(), AllocEr
     match kernel.ec(id) {
         Some(context) => {
             let state = state_word(context.state);
-            writeln!(out, "ec {id} {state}")
+            write!(out, "ec {id} {state}")?;
+            write_number(out, waits_for(context.state))?;
+            out.push_str("\n")
         }
         None => Ok(()),
     }

@@ -3,9 +3,11 @@ ghost use Rattle.byteorder.specs.Endian.{little_number};
 ghost use Rattle.std.specs.List.{starts_with};
 ghost use Rattle.nova_asking.specs.Questions.{has_word, named, shown};
 
+use crate::aim::Aim;
 use crate::bytes::Bytes;
 use crate::contexts::{is_dead, is_left, some_is_dead, some_other_is_dead, some_waits};
 use crate::locations::{some_is_at, two_are_at};
+use crate::stores::some_stores;
 use nova_guest::words::read_word;
 use nova_kernel::{Kernel, LogByte};
 use nova_search::Goal;
@@ -33,6 +35,9 @@ pub enum Question {
     /// Whether a processor is about to execute the instruction at a location, and another one that at a second location.
     AtBoth { first: Location, second: Location },
 
+    /// Whether a processor is about to execute an instruction that stores to one of these bytes of a RAM frame.
+    Stores { frame: u32, first: u32, last: u32 },
+
     /// Whether the run ends while an execution context waits at a semaphore.
     Blocked,
 
@@ -47,6 +52,9 @@ pub enum Question {
 
     /// Whether the run ends while the execution context of this number is there, and not dead.
     Stuck { ec: u32 },
+
+    /// Whether a run can hang: no order of at most so many turns more leads on to what is aimed at.
+    Hangs { turns: u32, aim: Aim },
 
     /// Whether the run ends.
     Ends,
@@ -93,9 +101,9 @@ fn has_word(kernel: &Kernel, frame: u32, offset: u32, value: u32) -> bool
 }
 
 impl Goal for Question {
-    ghost use Rattle.nova_asking.specs.Questions.{IsApt, is_so};
+    ghost use Rattle.nova_asking.specs.Questions.{IsOfState, is_so};
 
-    ghost apt = { IsApt };
+    ghost apt = { IsOfState };
 
     ghost met = { is_so };
 
@@ -116,11 +124,13 @@ impl Goal for Question {
             } => Ok(has_word(kernel, *frame, *offset, *value)),
             Question::At { location } => Ok(some_is_at(kernel, *location)),
             Question::AtBoth { first, second } => Ok(two_are_at(kernel, *first, *second)),
+            Question::Stores { frame, first, last } => some_stores(kernel, *frame, *first, *last),
             Question::Blocked => Ok(kernel.quiet() && some_waits(kernel)),
             Question::Dies => Ok(some_is_dead(kernel)),
             Question::DiesOf { ec } => Ok(is_dead(kernel, *ec)),
             Question::DiesBut { ec } => Ok(some_other_is_dead(kernel, *ec)),
             Question::Stuck { ec } => Ok(kernel.quiet() && is_left(kernel, *ec)),
+            Question::Hangs { .. } => unreachable!(),
             Question::Ends => Ok(kernel.quiet()),
         }
     }
@@ -135,10 +145,12 @@ impl Question {
             Question::DiesOf { ec } | Question::DiesBut { ec } | Question::Stuck { ec } => Some(
                 *ec,
             ),
+            Question::Hangs { aim, .. } => aim.named(),
             Question::Console { .. }
             | Question::Word { .. }
             | Question::At { .. }
             | Question::AtBoth { .. }
+            | Question::Stores { .. }
             | Question::Blocked
             | Question::Dies
             | Question::Ends => None,

@@ -1,7 +1,7 @@
-ghost use Rattle.std.specs.Prelude.{◌≡◌, ◌^◌, ◌≤◌, IfOk};
+ghost use Rattle.std.specs.Prelude.{◌≡◌, ◌+◌, ◌^◌, ◌≤◌, IfOk};
 ghost use Rattle.std.specs.List.{AllByRecursion};
 ghost use Rattle.nova_asking.specs.Answers.{AreDistinct, AreEnds, IsAnswer, IsCount, IsEnd, outcomes};
-ghost use Rattle.nova_asking.specs.Questions.{IsApt};
+ghost use Rattle.nova_asking.specs.Questions.{IsApt, ahead};
 ghost use Rattle.nova_boot.specs.Boot.{scenario_of};
 ghost use Rattle.nova_model.specs.Boot.{boot};
 ghost use Rattle.nova_scenario.specs.Sound.{IsSound};
@@ -26,7 +26,7 @@ fn opening(alloc: Global, scenario: &Scenario) -> Result<Vertex, AllocError>
 }
 
 /// What a search from the boot of a scenario answers to a question: along orders of at most `limit` turns, and with at most `most` states
-/// expanded. The limit is at most 2^31.
+/// expanded. The limit, with the turns that the question looks ahead, is at most 2^31.
 pub fn judge_scenario(
     alloc: Global,
     scenario: &Scenario,
@@ -35,7 +35,7 @@ pub fn judge_scenario(
     question: &Question,
 ) -> Result<Answer, AllocError>
     requires sound { IsSound scenario.now }
-    requires limit { limit ≤ 2 ^ 31 }
+    requires limit { limit + ahead question.now ≤ 2 ^ 31 }
     requires apt { IsApt question.now }
     ensures { IfOk result (IsAnswer question.now (boot (scenario_of scenario.now)) limit most) }
 {
@@ -55,10 +55,10 @@ pub fn list_scenario_ends(
 ) -> Result<Ends, AllocError>
     requires sound { IsSound scenario.now }
     requires limit { limit ≤ 2 ^ 31 }
-    ensures each { IfOk result (λ e. AllByRecursion (IsEnd (boot (scenario_of scenario.now))) e.ends.items) }
+    ensures each { IfOk result (λ e. AllByRecursion (IsEnd (boot (scenario_of scenario.now)) limit) e.ends.items) }
     ensures all { IfOk result (λ e. AreEnds (boot (scenario_of scenario.now)) limit e.extent (outcomes e.ends.items)) }
     ensures once { IfOk result (λ e. AreDistinct (outcomes e.ends.items)) }
-    ensures states { IfOk result (λ e. IsCount (boot (scenario_of scenario.now)) most e.extent e.states) }
+    ensures states { IfOk result (λ e. IsCount (boot (scenario_of scenario.now)) limit most e.extent e.states) }
 {
     let opening = opening(alloc, scenario)?;
     let ends = list_ends(alloc, &opening, limit, most);

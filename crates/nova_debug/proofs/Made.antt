@@ -3,8 +3,8 @@ use Rattle.std.proofs.Common.{ℕ, ◌+◌, ◌^◌, ◌<◌, ◌≤◌, List, l
 use Rattle.std.specs.List.{AllByRecursion}
 use Rattle.nova_model.specs.State.{KernelState}
 use Rattle.nova_model.specs.Runs.{IsFreeOfIdle}
-use Rattle.nova_shared.specs.Finished.{IsFinished}
-use Rattle.nova_shared.specs.declared.finished.Finished.{Finished}
+use Rattle.nova_finished.specs.Finished.{IsFinished}
+use Rattle.nova_finished.specs.declared.finished.Finished.{Finished}
 use Rattle.nova_recording.specs.Recordings.{IsDone}
 
 -- a run from a state, which is over

@@ -1,4 +1,4 @@
--- What comes of a line: where one is then, what is looked for, and what is answered.
+-- What comes of a line: at which turn the session is then, what is looked for, and what is answered.
 use Rattle.std.specs.Prelude.{◌≡◌, ◌⊎◌, ℕ, ◌≤◌, Bool, true, false, List, [], ◌∷◌, ◌++◌, codes, decimal, length, max, min, Option, Some, None, option_map, slice_get}
 use Rattle.nova_model.specs.Delegations.{reach}
 use Rattle.nova_model.specs.State.{KernelState}
@@ -29,19 +29,19 @@ abbrev pub last_line : Option ℕ → List ℕ
 last_line (Some turn) = codes "last " ++ (decimal turn ++ line_feed)
 last_line None = codes "none\n"
 
--- the turn to which one goes, and a search for that: no further than the end, and a search not back
+-- the turn to which a command goes, and a search for that: no further than the end, and a search not back
 abbrev pub turn_of : RecordingView → ℕ → ℕ
 turn_of r to = min to (length r.events)
 
 abbrev pub end_of : RecordingView → ℕ → ℕ
 end_of r to = max (turn_of r to) r.turn
 
--- one stays, and something is told
+-- the session stays, and something is told
 pub record HasTold (old new : RecordingView) (text before after : List ℕ) : Type 0 where
   pub stayed : new ≡ old
   pub written : after ≡ before ++ text
 
--- one stays, and nothing is told
+-- the session stays, and nothing is told
 pub record HasStayed (old new : RecordingView) (before after : List ℕ) : Type 0 where
   pub stayed : new ≡ old
   pub written : after ≡ before
@@ -77,7 +77,7 @@ page_at k pd page = option_map (λ (p : Page). (p.frame, p.rights.0)) (reach k.d
 abbrev pub accessed_at : RecordingView → Option Accessed
 accessed_at r = access_by (at_turn r.opening r.events r.turn) (slice_get r.events r.turn)
 
--- what a command comes to: where one is after it, and what is told
+-- what a command comes to: at which turn the session is after it, and what is told
 abbrev pub IsAnswered : Command → Search → RecordingView → RecordingView → List ℕ → List ℕ → Type 0
 IsAnswered (Tell reading) search old new before after = HasTold old new (told_at old reading) before after
 IsAnswered Access search old new before after = HasTold old new (access_line (accessed_at old)) before after
@@ -110,7 +110,7 @@ abbrev pub most_after : Command → ℕ → ℕ
 most_after (Keep bytes) most = bytes
 most_after other most = most
 
--- one is at a turn of the same run, in the state after as many entries of its order, and the kept states take no more than they may
+-- the session is at a turn of the same run, in the state after as many entries of its order, and the kept states take no more than they may
 pub record IsHere (old new : RecordingView) (told : ℕ) : Type 0 where
   pub same : IsSameRun old new
   pub turn : told ≡ new.turn
@@ -125,8 +125,8 @@ pub record IsDone (command : Command) (old new : Session) (turn : ℕ) (before a
   pub most : new.recording.most ≡ most_after command old.recording.most
   pub here : IsHere old.recording new.recording turn
 
--- where one is after a refusal of memory: a search on its way, past no turn that is looked for; `go` at the same turn or not after its own;
--- else at the same turn
+-- at which turn the session is after a refusal of memory: a search on its way, past no turn that is looked for; `go` at the same turn or not after
+-- its own; else at the same turn
 abbrev pub IsStopped : Command → Search → RecordingView → RecordingView → Type 0
 IsStopped (Run to) search old new = IsOnTheWay old.opening old.events search old.turn (end_of old to) new.turn
 IsStopped (Last to) search old new = (old.turn ≤ new.turn) × (new.turn ≤ end_of old to)

@@ -12,9 +12,9 @@ use Rattle.nova_order.specs.declared.block.Block.{Block}
 use Rattle.nova_recording.specs.Recordings.{order_of as order_in}
 use Rattle.nova_scenario.specs.Scenario.{scenario}
 use Rattle.nova_scenario.specs.declared.scenario.Scenario.{Scenario as ScenarioText}
-use Rattle.nova_shared.specs.Fault.{message_of}
-use Rattle.nova_shared.specs.Finished.{IsIdleLine}
-use Rattle.nova_shared.specs.declared.fault.RunFault.TheVariants.{OrderIdle, Memory}
+use Rattle.nova_finished.specs.Fault.{message_of}
+use Rattle.nova_finished.specs.Finished.{IsIdleLine}
+use Rattle.nova_finished.specs.declared.fault.RunFault.TheVariants.{OrderIdle, Memory}
 use Rattle.nova_debug.specs.Commands.{number_of}
 use Rattle.nova_debug.specs.declared.refusal.Refusal.{Refusal}
 use Rattle.nova_debug.specs.declared.refusal.Refusal.TheVariants.{Usage, Limit, Scenario, Order, Run}
@@ -85,7 +85,7 @@ IsBegunRound from limit (Ok s) = IsAtBeginning from (rounds (boot (scenario_of f
 IsBegunRound from limit (Err (Run Memory)) = ⊤
 IsBegunRound from limit (Err other) = ⊥
 
--- along an order that came; or the first idle turn of one that came is in the block of this line
+-- along an order that came; or the first idle turn of an order that came is in the block of this line
 pub record HasBegunAlong {D : Type 0} (d : Depots D) (from : ScenarioText) (name : List ℕ) (limit : ℕ) (old new : D) (s : Session) : Type 0 where
   pub blocks : List Block
   pub came : OrderCame d name from.cpus limit old blocks new
@@ -103,7 +103,7 @@ IsBegunAlong d from name limit old new (Err (Run (OrderIdle line))) = HasMetIdle
 IsBegunAlong d from name limit old new (Err (Run Memory)) = ⊤
 IsBegunAlong d from name limit old new (Err other) = ⊥
 
--- of a scenario, along an order where one is named
+-- of a scenario, along an order if it is named
 abbrev pub IsBegunOf : {D : Type 0} → Depots D → ScenarioText → ℕ → Option (List ℕ) → D → D → Result Session Refusal → Type 0
 IsBegunOf d from limit None old new result = IsBegunRound from limit result × (new ≡ old)
 IsBegunOf d from limit (Some order) old new result = IsBegunAlong d from order limit old new result

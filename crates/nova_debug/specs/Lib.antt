@@ -2,7 +2,7 @@ pub use Rattle.nova_order.specs.Blocks
 pub use Rattle.nova_report.specs.Report
 pub use Rattle.nova_recording.specs.Recordings
 pub use Rattle.nova_recording.specs.Wants
-pub use Rattle.nova_shared.specs.Finished
+pub use Rattle.nova_finished.specs.Finished
 pub use Rattle.nova_telling.specs.Told
 pub use Rattle.nova_text.specs.Line
 pub use Rattle.nova_text.specs.Number

@@ -10,7 +10,7 @@ use Rattle.nova_order.specs.Text.{block_of_numbers}
 use Rattle.nova_order.specs.declared.block.Block.{Block}
 use Rattle.nova_report.specs.Report.{report}
 use Rattle.nova_report.specs.Words.{line_feed}
-use Rattle.nova_shared.specs.Finished.{IsIdleLine}
+use Rattle.nova_finished.specs.Finished.{IsIdleLine}
 use Rattle.nova_debug.specs.Commands.{number_of}
 use Rattle.nova_debug.specs.declared.orders.OrderReply.{OrderReply}
 use Rattle.nova_debug.specs.declared.orders.OrderReply.TheVariants.{No, Report, Idle, Memory}
@@ -61,7 +61,7 @@ pub record HasRunAll (k : KernelState) (ts text : List ℕ) : Type 0 where
   pub free : IsFreeOfIdle k ts
   pub told : text ≡ report (run k ts) (trace k ts)
 
--- a turn is idle: the first one is in the block of this number, counted from 1, where the turns of a processor one after another are a block
+-- a turn is idle: the first such turn is in the block of this number, counted from 1, where the turns of a processor one after another are a block
 pub record HasMetIdle (k : KernelState) (ts : List ℕ) (number : ℕ) : Type 0 where
   pub may : may_run k ts ≡ true
   pub blocks : List Block

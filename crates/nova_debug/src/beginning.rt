@@ -21,7 +21,7 @@ use std::alloc::Global;
 /// The most bytes of kept states, until a line says otherwise.
 const KEPT: usize = 64 * 1024 * 1024;
 
-/// The most turns of a run, as a word says; none where it is no number from 1 to 10,000,000.
+/// The most turns of a run, as `word` says; none where it is no number from 1 to 10,000,000.
 fn limit_of(word: &[u8]) -> Option<u32>
     ensures { result ≡ limit_of word.now }
 {
@@ -33,7 +33,7 @@ fn limit_of(word: &[u8]) -> Option<u32>
     }
 }
 
-/// Fetches a scenario of at most 16 MiB and reads it.
+/// Fetches the file `name`, of at most 16 MiB, and reads it as a scenario.
 fn fetch_scenario<D: Depot>(alloc: Global, depot: &mut D, name: &str) -> Result<Scenario, Refusal>
     ensures read { IsScenarioRead (depots D.files D.gave D.fetch_failed D.fetch_faults D.took D.append_failed D.append_faults) name.now depot.old depot.new result }
     ensures sound { IfOk result IsSound }
@@ -69,7 +69,7 @@ fn fetch_order<D: Depot>(
     }
 }
 
-/// A session at a recording's turn, with at most 64 MiB of kept states, that looks for nothing.
+/// A session at the turn of `recording`, with at most 64 MiB of kept states, that looks for nothing.
 fn session_of(alloc: Global, recording: Recording) -> Session
     ensures same { IsSameRun recording result.recording }
     ensures turn { result.recording.turn ≡ recording.turn }
@@ -86,7 +86,7 @@ fn session_of(alloc: Global, recording: Recording) -> Session
     Session { recording, search }
 }
 
-/// Begins with the run of a scenario along an order.
+/// Begins with the run of `scenario` along `order`.
 fn begin_along<D: Depot>(
     alloc: Global,
     depot: &mut D,
@@ -106,7 +106,7 @@ fn begin_along<D: Depot>(
     }
 }
 
-/// Begins with the run of a scenario by round robin.
+/// Begins with the run of `scenario` by round robin.
 fn begin_round(alloc: Global, scenario: &Scenario, limit: u32) -> Result<Session, Refusal>
     requires sound { IsSound scenario.now }
     requires limit { limit ≤ MOST_TURNS }
@@ -118,7 +118,7 @@ fn begin_round(alloc: Global, scenario: &Scenario, limit: u32) -> Result<Session
     }
 }
 
-/// Begins with the run of a scenario, along an order where one is named.
+/// Begins with the run of `scenario`, along `order` where that is named.
 fn begin_of<D: Depot>(
     alloc: Global,
     depot: &mut D,

@@ -37,7 +37,7 @@ pub enum Command {
     Keep(u32),
 }
 
-/// The command of a verb with no number.
+/// The command of `verb` with no number.
 fn alone(verb: Verb) -> Option<Command>
     ensures { result ≡ command verb [] }
 {
@@ -55,7 +55,7 @@ fn alone(verb: Verb) -> Option<Command>
     }
 }
 
-/// The command of a verb with a number.
+/// The command of `verb` with `number`.
 fn with_number(verb: Verb, number: u32) -> Option<Command>
     ensures { result ≡ command verb (number ∷ []) }
 {
@@ -73,7 +73,7 @@ fn with_number(verb: Verb, number: u32) -> Option<Command>
     }
 }
 
-/// The command of a verb with two numbers.
+/// The command of `verb` with two numbers, `first` and `second`.
 fn with_numbers(verb: Verb, first: u32, second: u32) -> Option<Command>
     ensures { result ≡ command verb (first ∷ second ∷ []) }
 {
@@ -86,7 +86,7 @@ fn with_numbers(verb: Verb, first: u32, second: u32) -> Option<Command>
     }
 }
 
-/// The command of a verb with three numbers.
+/// The command of `verb` with three numbers.
 fn with_three(verb: Verb, frame: u32, first: u32, last: u32) -> Option<Command>
     ensures { result ≡ command verb (frame ∷ first ∷ last ∷ []) }
 {
@@ -97,7 +97,7 @@ fn with_three(verb: Verb, frame: u32, first: u32, last: u32) -> Option<Command>
     }
 }
 
-/// The command that the words of a line ask: none where they are no command.
+/// The command that the words of `line` ask; none where they are no command.
 pub fn command_of(line: &mut Line) -> Option<Command>
     ensures { result ≡ command_of (texts_of (tokens_left line.old)) }
 {

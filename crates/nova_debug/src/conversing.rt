@@ -14,7 +14,7 @@ use std::alloc::Global;
 use std::io;
 use std::io::{BufRead, Write};
 
-/// The whole of a line.
+/// The line that `text` is, whole.
 fn whole(text: &[u8]) -> Line<'_>
     ensures { texts_of (tokens_left result) ≡ words_of text.now }
 {
@@ -25,14 +25,14 @@ fn whole(text: &[u8]) -> Line<'_>
     }
 }
 
-/// What a line asks; none where it is no command.
+/// What `line` asks; none where it is no command.
 fn asked(line: &[u8]) -> Option<Command>
     ensures { result ≡ command_of (words_of line.now) }
 {
     command_of(&mut whole(line))
 }
 
-/// What stands in a line behind the word `order`; none where another word is the first.
+/// What stands in `line` behind the word `order`; none where another word is the first.
 fn behind_order(line: &[u8]) -> Option<Line<'_>>
     ensures { option_map (λ rest. texts_of (tokens_left rest)) result ≡ behind_order (words_of line.now) }
 {
@@ -45,7 +45,7 @@ fn behind_order(line: &[u8]) -> Option<Line<'_>>
     }
 }
 
-/// Writes the lines of a reply, of which what is told comes first.
+/// Writes the lines of `reply`, of which `text`, what is told, comes first.
 fn write_reply<W: Write>(out: &mut W, text: &[u8], reply: Reply) -> io::Result<()>
     ensures { OnOk result (Appends (W.contents out.old) (W.contents out.new) (reply_text reply text.now)) }
 {
@@ -59,7 +59,7 @@ fn write_reply<W: Write>(out: &mut W, text: &[u8], reply: Reply) -> io::Result<(
     }
 }
 
-/// Writes the lines of a reply to an order.
+/// Writes the lines of `reply`, to an order.
 fn write_order_reply<W: Write>(out: &mut W, reply: &OrderReply) -> io::Result<()>
     ensures { OnOk result (Appends (W.contents out.old) (W.contents out.new) (order_text reply.now)) }
 {
@@ -74,7 +74,7 @@ fn write_order_reply<W: Write>(out: &mut W, reply: &OrderReply) -> io::Result<()
     }
 }
 
-/// Answers what stands behind the word `order` by the run of another order.
+/// Answers `pairs`, what stands behind the word `order`, by the run of another order.
 fn answer_order<W: Write>(
     alloc: Global,
     out: &mut W,
@@ -87,7 +87,7 @@ fn answer_order<W: Write>(
     write_order_reply(out, &reply)
 }
 
-/// Answers a line that asks something of the session's run.
+/// Answers `line`, which asks something of the session's run.
 fn answer_command<W: Write>(
     alloc: Global,
     out: &mut W,
@@ -101,7 +101,7 @@ fn answer_command<W: Write>(
     write_reply(out, text.as_bytes(), reply)
 }
 
-/// Answers a line.
+/// Answers `line`.
 fn answer<W: Write>(
     alloc: Global,
     out: &mut W,
@@ -116,7 +116,7 @@ fn answer<W: Write>(
     }
 }
 
-/// Answers each line that is read, in the session that the line before it left, before the next one is read.
+/// Answers each line of `input` in `out`, in the session that the line before it left, before the next is read.
 pub fn converse<R: BufRead + Drop, W: Write>(
     alloc: Global,
     input: R,

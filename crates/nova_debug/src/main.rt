@@ -28,13 +28,13 @@ fn answer_input(rt: HostRuntime, session: &mut Session) -> io::Result<()> {
     converse(alloc, input, &mut out, session)
 }
 
-/// Goes through the run of a session.
+/// Goes through the run of `session`.
 fn go_through(rt: HostRuntime, session: Session) -> io::Result<()> {
     let mut session = session;
     answer_input(rt, &mut session)
 }
 
-/// Begins by the words of the command line, of which the first is the program's own.
+/// Begins by `words`, those of the command line, of which the first is the program's own.
 fn begin_by(rt: HostRuntime, words: &[String]) -> Result<Session, Refusal> {
     let mut depot = FileDepot::new(rt);
     let alloc = rt.alloc();

@@ -5,8 +5,8 @@ ghost use Rattle.nova_model.specs.Runs.{rounds, trace};
 ghost use Rattle.nova_order.specs.Blocks.{turns, is_within};
 ghost use Rattle.nova_recording.specs.Recordings.{order_of};
 ghost use Rattle.nova_scenario.specs.Sound.{IsSound};
-ghost use Rattle.nova_shared.specs.Finished.{IsIdleLine};
-ghost use Rattle.nova_shared.specs.declared.fault.RunFault.TheVariants.{Memory, OrderIdle};
+ghost use Rattle.nova_finished.specs.Finished.{IsIdleLine};
+ghost use Rattle.nova_finished.specs.declared.fault.RunFault.TheVariants.{Memory, OrderIdle};
 
 use nova_boot::boot;
 use nova_order::Order;
@@ -15,7 +15,7 @@ use nova_run::{RunFault, round_robin, run_order};
 use nova_scenario::Scenario;
 use std::alloc::Global;
 
-/// Makes the run of a scenario by round robin, of at most `limit` turns.
+/// Makes the run of `scenario` by round robin, of at most `limit` turns.
 pub fn run_rounds(alloc: Global, scenario: &Scenario, limit: u32) -> Result<Recording, RunFault>
     requires sound { IsSound scenario.now }
     requires limit { limit ≤ 2 ^ 31 }
@@ -33,7 +33,7 @@ pub fn run_rounds(alloc: Global, scenario: &Scenario, limit: u32) -> Result<Reco
     Ok(Recording::new(alloc, run)?)
 }
 
-/// Makes the run of a scenario along an order of at most `limit` turns.
+/// Makes the run of `scenario` along `order`, of at most `limit` turns.
 pub fn run_along(
     alloc: Global,
     scenario: &Scenario,

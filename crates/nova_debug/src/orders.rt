@@ -4,8 +4,8 @@ ghost use Rattle.nova_model.specs.Runs.{run, trace, IsFreeOfIdle};
 ghost use Rattle.nova_order.specs.Blocks.{IsOrder, is_within, total, turns};
 ghost use Rattle.nova_order.specs.Text.{block_of_numbers};
 ghost use Rattle.nova_report.specs.Report.{report};
-ghost use Rattle.nova_shared.specs.Finished.{IsIdleLine};
-ghost use Rattle.nova_shared.specs.declared.fault.RunFault.TheVariants.{OrderIdle};
+ghost use Rattle.nova_finished.specs.Finished.{IsIdleLine};
+ghost use Rattle.nova_finished.specs.declared.fault.RunFault.TheVariants.{OrderIdle};
 ghost use Rattle.nova_text.specs.Token.{texts_of, tokens_left};
 ghost use Rattle.nova_debug.specs.Commands.{number_of};
 ghost use Rattle.nova_debug.specs.Orders.{IsAdded, IsReplyTo, turns_asked};
@@ -33,10 +33,10 @@ pub enum OrderReply {
     Memory,
 }
 
-/// What is let go here is dropped apart from all else.
+/// Drops a value out of line, which keeps the caller's proof small.
 fn let_go<T: Drop>(_value: T) {}
 
-/// The block of a processor's word and a count's; none where one of them is no number.
+/// The block of the words `cpu` and `count`; none where one of them is no number.
 fn block_of(cpu: &[u8], count: &[u8]) -> Option<Block>
     ensures { result ≡ block_of_numbers (number_of cpu.now) (number_of count.now) }
 {
@@ -48,7 +48,7 @@ fn block_of(cpu: &[u8], count: &[u8]) -> Option<Block>
     })
 }
 
-/// Adds a block to an order of at most `most` turns; and whether that may be: it has turns, and with them there are no more than `most`.
+/// Adds `block` to `order`, of at most `most` turns; and whether that may be: it has turns, and with them there are no more than `most`.
 fn add(order: &mut Order, block: Block, most: u64) -> Result<bool, AllocError>
     requires few { total order.old.blocks ≤ most }
     ensures { IfOk result (λ is_added. IsAdded most order.old.blocks block is_added order.new.blocks) }
@@ -61,8 +61,8 @@ fn add(order: &mut Order, block: Block, most: u64) -> Result<bool, AllocError>
     Ok(true)
 }
 
-/// The order of the pairs of a processor and a count that are left of a line; none where they are no pairs, where a count is 0, or where
-/// they are more than `most` turns. Neighbours of the same processor are one block.
+/// The order of the pairs of a processor and a count that are left of `line`; none where they are no pairs, where a count is 0, or where they are
+/// more than `most` turns. Neighbours of the same processor are one block.
 fn order_of(alloc: Global, line: &mut Line, most: u64) -> Result<Option<Order>, AllocError>
     ensures turns { IfOk result (λ order. option_map (λ o. turns o.blocks) order ≡ turns_asked most (texts_of (tokens_left line.old))) }
     ensures few { IfOk result (λ order. IfSome order (λ o. total o.blocks ≤ most)) }
@@ -82,14 +82,14 @@ fn order_of(alloc: Global, line: &mut Line, most: u64) -> Result<Option<Order>, 
     Ok(Some(order))
 }
 
-/// Whether all blocks are of processors that are there.
+/// Whether all `blocks` are of processors that are there.
 fn are_there(blocks: &[Block], cpus: u32) -> bool
     ensures { result ≡ list_all (λ block. nat_lt block.cpu cpus) blocks.now }
 {
     blocks.iter().all(|block| block.cpu < cpus)
 }
 
-/// Whether an order is of processors that are there, and of no more turns than there may be.
+/// Whether `order` is of processors that are there, and of no more turns than there may be.
 fn is_within(order: &Order, cpus: u32, most: u64) -> bool
     ensures is { result ≡ is_within cpus most order.now.blocks }
     ensures order { IsOrder order.now.blocks }
@@ -97,14 +97,14 @@ fn is_within(order: &Order, cpus: u32, most: u64) -> bool
     are_there(order.blocks(), cpus) && order.sum() <= most
 }
 
-/// The report of a run that is over.
+/// The report of `finished`, a run that is over.
 fn told(alloc: Global, finished: &Finished) -> Result<Vec<u8>, AllocError>
     ensures { IfOk result (λ text. text.items ≡ report finished.now.kernel.state finished.now.trace.items) }
 {
     report(alloc, &finished.kernel, &finished.trace)
 }
 
-/// A kernel in the same state that may take so many turns.
+/// A copy of `opening`, in the same state, that may take `turns` turns.
 fn prepared(opening: &Kernel, turns: u64) -> Result<Kernel, AllocError>
     ensures state { IfOk result (λ k. k.state ≡ opening.now.state) }
     ensures room { IfOk result (λ k. turns ≤ k.room) }
@@ -119,7 +119,7 @@ fn prepared(opening: &Kernel, turns: u64) -> Result<Kernel, AllocError>
     }
 }
 
-/// The report of a run from a state along an order of at most `most` turns.
+/// The report of a run from the state of `opening` along `order`, of at most `most` turns.
 fn run_along(alloc: Global, opening: &Kernel, order: &Order, most: u64) -> Result<Vec<u8>, RunFault>
     requires within { IsTrue (is_within opening.now.state.cpus most order.now.blocks) }
     requires turns { opening.now.state.turns + most ≤ 2 ^ 31 }
@@ -135,7 +135,7 @@ fn run_along(alloc: Global, opening: &Kernel, order: &Order, most: u64) -> Resul
     Ok(text?)
 }
 
-/// Replies to an order of few turns, by its run from a kernel's state.
+/// Replies to `order`, of few turns, by its run from the state of `opening`.
 fn reply_to(alloc: Global, opening: &Kernel, order: &Order) -> OrderReply
     requires few { total order.now.blocks ≤ MOST_TURNS }
     ensures { IsReplyTo opening.now.state (Some (turns order.now.blocks)) result }
@@ -151,7 +151,7 @@ fn reply_to(alloc: Global, opening: &Kernel, order: &Order) -> OrderReply
     }
 }
 
-/// Replies to the pairs of a processor and a count that are left of a line, by the run of their turns from a kernel's state.
+/// Replies to `pairs`, what is left of a line of pairs of a processor and a count, by the run of their turns from the state of `opening`.
 pub fn reply_to_pairs(alloc: Global, opening: &Kernel, pairs: &mut Line) -> OrderReply
     ensures { IsReplyTo opening.now.state (turns_asked 10000000 (texts_of (tokens_left pairs.old))) result }
 {

@@ -17,18 +17,18 @@ pub struct Session {
     pub search: Search,
 }
 
-/// What is replied to a line, behind what is told.
+/// How the answer to a line ends, after what is told: whether the line was done.
 #[derive(Clone, Copy)]
 pub enum Reply {
     /// It is no command.
     No,
-    /// It was done, and one is at a turn.
+    /// It was done; holds the turn of the present state.
     Done(usize),
-    /// Memory was refused, and one is at a turn.
+    /// Memory was refused; holds the turn of the present state.
     Refused(usize),
 }
 
-/// Looks for what a command asks one to look for, beside what is looked for, or for nothing. Where memory is refused, what is looked for stays.
+/// Adds the breakpoint or watch of `command` to `search`; `clear` empties it. Where memory is refused, what is looked for stays.
 fn look_for(search: &mut Search, command: Command) -> Result<(), AllocError>
     ensures wants { OnOk result (search.new.wants.items ≡ wants_after command search.old.wants.items) }
     ensures watches { OnOk result (search.new.watches.items ≡ watches_after command search.old.watches.items) }
@@ -49,7 +49,7 @@ fn look_for(search: &mut Search, command: Command) -> Result<(), AllocError>
     }
 }
 
-/// Looks for an instruction, too.
+/// Adds `want`, an instruction, to what `search` looks for.
 fn want(search: &mut Search, want: Want) -> Result<(), AllocError>
     ensures wants { OnOk result (search.new.wants.items ≡ search.old.wants.items ++ want ∷ []) }
     ensures watches { search.new.watches ≡ search.old.watches }
@@ -59,7 +59,7 @@ fn want(search: &mut Search, want: Want) -> Result<(), AllocError>
     Ok(())
 }
 
-/// Looks for loads or stores, too.
+/// Adds `watch`, of loads or stores, to what `search` looks for.
 fn watch(search: &mut Search, watch: Watch) -> Result<(), AllocError>
     ensures watches { OnOk result (search.new.watches.items ≡ search.old.watches.items ++ watch ∷ []) }
     ensures wants { search.new.wants ≡ search.old.wants }
@@ -69,7 +69,7 @@ fn watch(search: &mut Search, watch: Watch) -> Result<(), AllocError>
     Ok(())
 }
 
-/// Bytes of a frame, of which one looks for stores or for loads.
+/// A watch of bytes of `frame`, for stores or for loads.
 fn bytes_of(frame: u32, first: u32, last: u32, stores: bool) -> Watch
     ensures { result ≡ bytes_of frame first last (not stores) stores }
 {
@@ -98,14 +98,14 @@ fn write_last(out: &mut String, found: Option<usize>) -> Result<(), AllocError>
 }
 
 impl Session {
-    /// A turn of the run, or its end.
+    /// The turn `to`, or the run's end where that is before it.
     fn within(&self, to: u32) -> usize
         ensures { result ≡ turn_of self.now.recording to }
     {
         (to as usize).min(self.recording.events().len())
     }
 
-    /// Goes to a turn, or to the end.
+    /// Goes to the turn `to`, or to the end.
     fn go(&mut self, to: u32) -> Result<(), AllocError>
         ensures turn { OnOk result (self.new.recording.turn ≡ turn_of self.old.recording to) }
         ensures way { (self.new.recording.turn ≡ self.old.recording.turn) ⊎ (self.new.recording.turn ≤ turn_of self.old.recording to) }
@@ -117,7 +117,7 @@ impl Session {
         self.recording.go(to)
     }
 
-    /// Goes on to the first turn that is looked for, and tells whether there is one.
+    /// Goes on to the first turn before `to` that is looked for, and tells whether there is one.
     fn run(&mut self, out: &mut String, to: u32) -> Result<(), AllocError>
         ensures ran { OnOk result (HasRun self.old.recording self.new.recording self.old.search to (string_bytes out.old) (string_bytes out.new)) }
         ensures way { IsOnTheWay self.old.recording.opening self.old.recording.events self.old.search self.old.recording.turn (end_of self.old.recording to) self.new.recording.turn }
@@ -130,7 +130,7 @@ impl Session {
         write_stop(out, found)
     }
 
-    /// Goes on, and tells the last turn that is looked for.
+    /// Goes on to `to`, and tells the last turn that is looked for.
     fn last(&mut self, out: &mut String, to: u32) -> Result<(), AllocError>
         ensures passed { OnOk result (HasPassed self.old.recording self.new.recording self.old.search to (string_bytes out.old) (string_bytes out.new)) }
         ensures way { (self.old.recording.turn ≤ self.new.recording.turn) × (self.new.recording.turn ≤ end_of self.old.recording to) }
@@ -143,7 +143,7 @@ impl Session {
         write_last(out, found)
     }
 
-    /// Tells what a page leads to.
+    /// Tells what `page` leads to.
     fn page(&mut self, out: &mut String, pd: u32, page: u32) -> Result<(), AllocError>
         ensures told { OnOk result (string_bytes out.new ≡ string_bytes out.old ++ page_line (page_at (at_turn self.old.recording.opening self.old.recording.events self.old.recording.turn) pd page)) }
         ensures kept { self.new.recording ≡ self.old.recording }
@@ -153,7 +153,7 @@ impl Session {
         write_page(out, page.map(|(frame, rights)| (frame, rights.bits())))
     }
 
-    /// Tells what the next turn loads or stores.
+    /// Tells in `out` what the next turn loads or stores.
     fn access(&mut self, out: &mut String) -> Result<(), AllocError>
         ensures told { OnOk result (string_bytes out.new ≡ string_bytes out.old ++ access_line (accessed_at self.old.recording)) }
         ensures kept { self.new.recording ≡ self.old.recording }
@@ -163,7 +163,7 @@ impl Session {
         write_access(out, access)
     }
 
-    /// Goes where a command asks one to go, and tells what it asks for.
+    /// Goes where `command` asks to go, and tells what it asks for.
     fn follow(
         &mut self,
         alloc: Global,
@@ -193,8 +193,8 @@ impl Session {
     }
 
     /// Does what `command` asks, and tells its answer in `out`. Where memory runs out the recording is in the state of a turn of the same run: of
-    /// `run` after no turn that is looked for, of `last` on the way, of `go` the same one or not after its own, else the same one. What is
-    /// looked for stays, and so does the bound on kept states, unless the command is `keep`.
+    /// `run` after no turn that is looked for, of `last` on the way, of `go` the same turn or not after its own, else the same turn. What is looked
+    /// for stays, and so does the bound on kept states, unless the command is `keep`.
     pub fn serve(
         &mut self,
         alloc: Global,
@@ -214,8 +214,8 @@ impl Session {
         look_for(&mut self.search, command)
     }
 
-    /// Replies to a line, by what it asks; what is told goes to `out`. Where memory was refused, one is in the state of the turn that the
-    /// reply names.
+    /// Replies to a line, by the command `asked`; what is told goes to `out`. Where memory was refused, the session is in the state of the turn that
+    /// the reply names.
     pub fn reply(&mut self, alloc: Global, out: &mut String, asked: Option<Command>) -> Reply
         ensures replied { IsReplied asked result self.old self.new (string_bytes out.old) (string_bytes out.new) }
         ensures same { IsSameRun self.old.recording self.new.recording }

@@ -89,7 +89,7 @@ impl Verb {
         }
     }
 
-    /// The verb that a word is.
+    /// The verb that `word` is.
     pub fn named(word: &[u8]) -> Option<Verb>
         ensures { result ≡ verb_named word.now }
     {

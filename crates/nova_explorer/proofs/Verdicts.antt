@@ -15,7 +15,7 @@ use Rattle.nova_explorer.specs.declared.verdict.Verdict.{Verdict}
 
 module _ (q : Question) (k : KernelState) (cpus limit most : ℕ) (text : List ℕ) where
   told : (a : Answer) → IsAnswer q k limit most a → text ≡ answer_text cpus limit a → IsAnswered q k cpus limit most (verdict_of a) text
-  told (answer.Found order states) by is = record { order = order.blocks; leads = by.leads; states = states; count = by.found; tells = is }
+  told (answer.Found order states) by is = record { blocks = order.blocks; order = by.order; leads = by.leads; states = states; count = by.found; tells = is }
   told (answer.Never All states absent) by is = record { never = by.never; states = states; count = by.count; named = absent; absent = by.absent; tells = is }
   told (answer.Never Within states absent) by is = record { never = by.never; states = states; count = by.count; named = absent; absent = by.absent; tells = is }
   told (answer.Never Cut states absent) by is = record { never = by.never; states = states; count = by.count; named = absent; absent = by.absent; tells = is }
@@ -26,15 +26,15 @@ module _ (q : Question) (k : KernelState) (cpus limit most : ℕ) (text : List �
       subst (λ (w : Verdict). IsAnswered q k cpus limit most w text) (sym verdict)
       (told a (subst (λ (l : ℕ). IsAnswer q k limit l a) expanded (subst (λ (l : ℕ). IsAnswer q k l m a) turns by)) is)
 
-module _ (k : KernelState) (cpus limit most states : ℕ) (ends : List End) (text : List ℕ) (each : AllByRecursion (IsEnd k) ends) (once : AreDistinct (outcomes ends)) where
-  told_ends : (extent : Extent) → AreEnds k limit extent (outcomes ends) → IsCount k most extent states → text ≡ ends_text cpus limit extent states ends
+module _ (k : KernelState) (cpus limit most states : ℕ) (ends : List End) (text : List ℕ) (each : AllByRecursion (IsEnd k limit) ends) (once : AreDistinct (outcomes ends)) where
+  told_ends : (extent : Extent) → AreEnds k limit extent (outcomes ends) → IsCount k limit most extent states → text ≡ ends_text cpus limit extent states ends
       → AreEndsTold k cpus limit most (of_extent extent) text
   told_ends All all count is = record { ends = ends; each = each; once = once; all = all; states = states; count = count; tells = is }
   told_ends Within all count is = record { ends = ends; each = each; once = once; all = all; states = states; count = count; tells = is }
   told_ends Cut all count is = record { ends = ends; each = each; once = once; all = all; states = states; count = count; tells = is }
 
-  pub ended : (n m : ℕ) (extent : Extent) (v : Verdict) → n ≡ limit → m ≡ most → AreEnds k n extent (outcomes ends) → IsCount k m extent states
+  pub ended : (n m : ℕ) (extent : Extent) (v : Verdict) → n ≡ limit → m ≡ most → AreEnds k n extent (outcomes ends) → IsCount k n m extent states
       → text ≡ ends_text cpus limit extent states ends → v ≡ of_extent extent → AreEndsTold k cpus limit most v text
   ended n m extent v turns expanded all count is verdict =
       subst (λ (w : Verdict). AreEndsTold k cpus limit most w text) (sym verdict)
-      (told_ends extent (subst (λ (l : ℕ). AreEnds k l extent (outcomes ends)) turns all) (subst (λ (l : ℕ). IsCount k l extent states) expanded count) is)
+      (told_ends extent (subst (λ (l : ℕ). AreEnds k l extent (outcomes ends)) turns all) (subst (λ (l : ℕ). IsCount k limit l extent states) expanded (subst (λ (l : ℕ). IsCount k l m extent states) turns count)) is)

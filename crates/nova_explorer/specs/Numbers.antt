@@ -1,7 +1,8 @@
 -- The numbers of a request.
 use Rattle.std.specs.Prelude.{ℕ, ◌≤◌, ◌^◌, ◌-◌, List, Option}
-use Rattle.nova_asking.specs.Questions.{IsApt}
+use Rattle.nova_asking.specs.Questions.{IsApt, ahead}
 use Rattle.nova_command.specs.Number.{number_within}
+use Rattle.nova_asking.specs.declared.question.Question.{Question}
 use Rattle.nova_explorer.specs.declared.request.Request.{Request}
 
 -- from 1 to 10,000,000 turns
@@ -16,11 +17,16 @@ IsStates n = (1 ≤ n) × (n ≤ 100000000)
 abbrev pub IsOffset : ℕ → Type 0
 IsOffset n = n ≤ 4092
 
--- the numbers of a request are within their bounds, and its question is on a word that lies in its frame
+-- a question is on a word that lies in its frame, and looks no more turns ahead than an order may have
+pub record IsAsked (q : Question) : Type 0 where
+  pub apt : IsApt q
+  pub ahead : ahead q ≤ 10000000
+
+-- the numbers of a request are within their bounds, and those of its question
 pub record HasBounds (r : Request) : Type 0 where
   pub turns : IsTurns r.turns
   pub states : IsStates r.states
-  pub apt : IsApt r.question
+  pub asked : IsAsked r.question
 
 -- what texts write
 abbrev pub number_of : List ℕ → Option ℕ
@@ -31,6 +37,10 @@ turns_of = number_within 1 10000000
 
 abbrev pub states_of : List ℕ → Option ℕ
 states_of = number_within 1 100000000
+
+-- a byte of a frame
+abbrev pub byte_of : List ℕ → Option ℕ
+byte_of = number_within 0 4095
 
 abbrev pub offset_of : List ℕ → Option ℕ
 offset_of = number_within 0 4092

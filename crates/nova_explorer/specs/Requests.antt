@@ -1,13 +1,14 @@
 -- Requests, by the words of the command line.
-use Rattle.std.specs.Prelude.{ℕ, List, ◌∷◌, codes, Option, Some, None, Result, Ok, Err, option_and_then, option_map, if◌then◌else◌}
+use Rattle.std.specs.Prelude.{ℕ, List, ◌∷◌, codes, nat_le, Option, Some, None, Result, Ok, Err, option_and_then, option_map, if◌then◌else◌}
 use Rattle.std.specs.Str.{bytes_eq}
 use Rattle.hex.specs.Hex.{decode_of}
+use Rattle.nova_asking.specs.declared.aim.Aim.TheVariants as aim
 use Rattle.nova_asking.specs.declared.question.Location.{Location}
 use Rattle.nova_asking.specs.declared.question.Question.{Question}
 use Rattle.nova_asking.specs.declared.question.Question.TheVariants as question
 use Rattle.nova_command.specs.Parsing.{Text}
 use Rattle.nova_explorer.specs.Form.{Given, given}
-use Rattle.nova_explorer.specs.Numbers.{number_of, offset_of, states_of, turns_of}
+use Rattle.nova_explorer.specs.Numbers.{byte_of, number_of, offset_of, states_of, turns_of}
 use Rattle.nova_explorer.specs.declared.request.Request.{Request}
 use Rattle.nova_explorer.specs.declared.word.Word.{Word}
 use Rattle.nova_explorer.specs.declared.word.Word.TheVariants as word
@@ -19,10 +20,12 @@ word_of text =
     else if bytes_eq text (codes "text") then Some word.Text
     else if bytes_eq text (codes "word") then Some word.Word
     else if bytes_eq text (codes "at") then Some word.At
+    else if bytes_eq text (codes "stores") then Some word.Stores
     else if bytes_eq text (codes "blocked") then Some word.Blocked
     else if bytes_eq text (codes "dies") then Some word.Dies
     else if bytes_eq text (codes "but") then Some word.But
     else if bytes_eq text (codes "stuck") then Some word.Stuck
+    else if bytes_eq text (codes "hangs") then Some word.Hangs
     else if bytes_eq text (codes "ends") then Some word.Ends
     else None
 
@@ -58,6 +61,24 @@ abbrev pub dies_but : Option Word → Option ℕ → Option Question
 dies_but (Some word.But) (Some ec) = Some (question.DiesBut ec)
 dies_but _ _ = None
 
+-- bytes from one to another, which are in this order
+abbrev pub on_bytes : Option ℕ → Option ℕ → Option ℕ → Option Question
+on_bytes (Some frame) (Some first) (Some last) = if nat_le first last then Some (question.Stores frame first last) else None
+on_bytes _ _ _ = None
+
+abbrev pub on_context : Word → Option ℕ → Option Question
+on_context word.Dies (Some ec) = Some (question.DiesOf ec)
+on_context word.Stuck (Some ec) = Some (question.Stuck ec)
+on_context _ _ = None
+
+abbrev pub end_hangs : Option ℕ → Option Question
+end_hangs (Some turns) = Some (question.Hangs turns aim.End)
+end_hangs None = None
+
+abbrev pub act_hangs : Option ℕ → Option ℕ → Option Question
+act_hangs (Some turns) (Some ec) = Some (question.Hangs turns (aim.Act ec))
+act_hangs _ _ = None
+
 -- the questions, each by its word and the words after it
 abbrev pub of_none : Word → Option Question
 of_none word.Blocked = Some question.Blocked
@@ -66,26 +87,27 @@ of_none word.Ends = Some question.Ends
 of_none _ = None
 
 abbrev pub of_one : Word → Text → Option Question
-of_one word.Dies ec = option_map (λ (n : ℕ). question.DiesOf n) (number_of ec)
-of_one word.Stuck ec = option_map (λ (n : ℕ). question.Stuck n) (number_of ec)
-of_one _ ec = None
+of_one word.Hangs turns = end_hangs (turns_of turns)
+of_one word ec = on_context word (number_of ec)
 
 abbrev pub of_two : Word → Text → Text → Option Question
 of_two word.Dies but ec = dies_but (word_of but) (number_of ec)
 of_two word.Console console digits = on_console (number_of console) (bytes_of digits)
 of_two word.Text console text = on_console (number_of console) (Some text)
+of_two word.Hangs turns ec = act_hangs (turns_of turns) (number_of ec)
 of_two word.At pd address = at_one (location_of (number_of pd) (number_of address))
 of_two _ first second = None
 
 abbrev pub of_three : Word → Text → Text → Text → Option Question
 of_three word.Word frame offset value = of_word (number_of frame) (offset_of offset) (number_of value)
+of_three word.Stores frame first last = on_bytes (number_of frame) (byte_of first) (byte_of last)
 of_three _ first second third = None
 
 abbrev pub of_four : Word → Text → Text → Text → Text → Option Question
 of_four word.At pd address other_pd other = at_both (location_of (number_of pd) (number_of address)) (location_of (number_of other_pd) (number_of other))
 of_four _ first second third fourth = None
 
--- by how many words there are: behind one that is missing there is none
+-- by how many words there are: behind a word that is missing there is none
 abbrev pub asked : Option Word → Option Text → Option Text → Option Text → Option Text → Option Question
 asked None first second third fourth = None
 asked (Some word) None second third fourth = of_none word

@@ -2,7 +2,7 @@
 use Rattle.std.specs.Prelude.{◌≡◌, ℕ, ◌^◌, Bool, true, List, nat_lt, Option}
 use Rattle.std.specs.List.{AllByRecursion}
 use Rattle.nova_model.specs.State.{KernelState}
-use Rattle.nova_order.specs.Blocks.{turns}
+use Rattle.nova_order.specs.Blocks.{IsOrder, turns}
 use Rattle.nova_order.specs.declared.block.Block.{Block}
 use Rattle.nova_scenario.specs.declared.scenario.Scenario.{Scenario}
 use Rattle.nova_asking.specs.Answers.{AreDistinct, AreEnds, AreFound, IsAbsent, IsCount, IsEnd, IsNever, IsWitness, outcomes}
@@ -21,34 +21,35 @@ use Rattle.nova_explorer.specs.declared.verdict.Verdict.TheVariants.{All, Found,
 pub record IsToldNever (q : Question) (k : KernelState) (cpus limit most : ℕ) (extent : Extent) (text : List ℕ) : Type 0 where
   pub never : IsNever q k limit extent
   pub states : ℕ
-  pub count : IsCount k most extent states
+  pub count : IsCount k limit most extent states
   pub named : Option ℕ
   pub absent : IsAbsent q k limit extent named
   pub tells : text ≡ never_text cpus limit extent states named
 
--- a shortest order does, without an idle turn, and its text is told
-pub record IsToldFound (q : Question) (k : KernelState) (cpus : ℕ) (text : List ℕ) : Type 0 where
-  pub order : List Block
-  pub leads : IsWitness q k (turns order)
+-- a shortest order within the limit does, without an idle turn, and its text is told
+pub record IsToldFound (q : Question) (k : KernelState) (cpus limit : ℕ) (text : List ℕ) : Type 0 where
+  pub blocks : List Block
+  pub order : IsOrder blocks
+  pub leads : IsWitness q k limit (turns blocks)
   pub states : ℕ
-  pub count : AreFound k states
-  pub tells : text ≡ found_text cpus states order
+  pub count : AreFound k (turns blocks) states
+  pub tells : text ≡ found_text cpus states blocks
 
 -- what is told of a question on states
 abbrev pub IsAnswered : Question → KernelState → ℕ → ℕ → ℕ → Verdict → List ℕ → Type 0
 IsAnswered q k cpus limit most All text = IsToldNever q k cpus limit most extent.All text
 IsAnswered q k cpus limit most Within text = IsToldNever q k cpus limit most extent.Within text
 IsAnswered q k cpus limit most Cut text = IsToldNever q k cpus limit most extent.Cut text
-IsAnswered q k cpus limit most Found text = IsToldFound q k cpus text
+IsAnswered q k cpus limit most Found text = IsToldFound q k cpus limit text
 
--- different outcomes are told, each with a shortest order that ends in it; each order that a search of this extent went along, and that ends the run, does so with one of them
+-- different outcomes are told, each with a shortest order within the limit that ends in it; each order that a search of this extent went along, and that ends the run, does so with one of them
 pub record AreToldEnds (k : KernelState) (cpus limit most : ℕ) (extent : Extent) (text : List ℕ) : Type 0 where
   pub ends : List End
-  pub each : AllByRecursion (IsEnd k) ends
+  pub each : AllByRecursion (IsEnd k limit) ends
   pub once : AreDistinct (outcomes ends)
   pub all : AreEnds k limit extent (outcomes ends)
   pub states : ℕ
-  pub count : IsCount k most extent states
+  pub count : IsCount k limit most extent states
   pub tells : text ≡ ends_text cpus limit extent states ends
 
 -- what is told of the ends of runs
@@ -67,6 +68,7 @@ IsTold q k cpus limit most verdict text = IsAnswered q k cpus limit most verdict
 abbrev pub has_place : Scenario → Question → Bool
 has_place from (question.Console console bytes) = nat_lt console from.consoles
 has_place from (question.Word frame offset value) = nat_lt frame (2 ^ from.ram)
+has_place from (question.Stores frame first last) = nat_lt frame (2 ^ from.ram)
 has_place from q = true
 
 -- ON THE WAY

@@ -42,7 +42,7 @@ absent_line extent None = []
 abbrev pub never_text : ℕ → ℕ → Extent → ℕ → Option ℕ → List ℕ
 never_text cpus limit extent states absent = alone_line cpus ++ (never_line extent limit ++ (states_line states ++ absent_line extent absent))
 
--- that one does, and its text
+-- that an order does, and its text
 abbrev pub found_text : ℕ → ℕ → List Block → List ℕ
 found_text cpus states order = alone_line cpus ++ (codes "found\n" ++ (states_line states ++ text_of order))
 

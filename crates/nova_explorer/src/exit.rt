@@ -44,7 +44,7 @@ pub enum Exit {
     Memory,
 }
 
-/// The status of a verdict.
+/// The status of `verdict`.
 fn status_of_verdict(verdict: Verdict) -> u8
     ensures { result ≡ status_of (Exit.Told verdict) }
 {

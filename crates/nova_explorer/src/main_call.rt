@@ -13,7 +13,7 @@ use nova_io::{Depot, Sink, write_all};
 use nova_loading::load_scenario;
 use std::alloc::Global;
 
-/// Reads the scenario of a request, and answers it.
+/// Reads the scenario of `request`, and answers it.
 fn prepare<D: Depot>(alloc: Global, request: &Request, depot: &mut D) -> Result<Told, Exit>
     requires { HasBounds request.now }
     ensures prepared { IsPrepared (depots D.files D.gave D.fetch_failed D.fetch_faults D.took D.append_failed D.append_faults) request.now depot.old depot.new result }
@@ -23,7 +23,7 @@ fn prepare<D: Depot>(alloc: Global, request: &Request, depot: &mut D) -> Result<
     tell(alloc, &scenario, request)
 }
 
-/// Writes what was told.
+/// Writes `told` to `out`.
 fn send<O: Sink>(out: &mut O, told: &Told) -> Exit
     ensures { IsSent (sinks O.written O.took O.write_failed O.faults) told.now result out.old out.new }
 {
@@ -33,7 +33,7 @@ fn send<O: Sink>(out: &mut O, told: &Told) -> Exit
     }
 }
 
-/// Answers a request, and writes it.
+/// Answers `request`, and writes it.
 fn serve<D: Depot, O: Sink>(alloc: Global, request: &Request, depot: &mut D, out: &mut O) -> Exit
     requires { HasBounds request.now }
     ensures answer { IsAnswer (depots D.files D.gave D.fetch_failed D.fetch_faults D.took D.append_failed D.append_faults) (sinks O.written O.took O.write_failed O.faults) request.now result depot.old depot.new out.old out.new }
@@ -56,25 +56,29 @@ fn serve<D: Depot, O: Sink>(alloc: Global, request: &Request, depot: &mut D, out
 /// | `console N HEX` | console N shows these bytes first, two hexadecimal digits each |
 /// | `text N TEXT` | the same, with the bytes of the word TEXT |
 /// | `word FRAME OFFSET VALUE` | the word at OFFSET of a frame of RAM, from 0 to 4,092, is VALUE, its lowest byte first |
-/// | `at PD ADDRESS` | the execution context that a processor has chosen is about to execute the instruction at ADDRESS of the domain PD |
-/// | `at PD ADDRESS PD ADDRESS` | that of one processor at the first, and that of another one at the second |
+/// | `at PD ADDRESS` | the next turn of a processor is the instruction at ADDRESS of the domain PD |
+/// | `at PD ADDRESS PD ADDRESS` | that of a processor is the instruction at the first, and that of another one that at the second |
+/// | `stores FRAME FIRST LAST` | the next turn of a processor is an instruction that stores to one of the bytes FIRST to LAST of a frame of RAM, from 0 to 4,095 |
 /// | `blocked` | no processor has a turn, and an execution context waits at a semaphore |
 /// | `dies`, `dies EC` | an execution context is dead, or that of this number |
 /// | `dies but EC` | one of another number is dead |
 /// | `stuck EC` | no processor has a turn, and the execution context of this number is there and not dead |
+/// | `hangs TURNS` | no order of at most TURNS turns more, from 1 to 10,000,000, ends the run |
+/// | `hangs TURNS EC` | the execution context of this number is there and not dead, and after no such order its turn is next |
 ///
 /// Or it is `ends`: with which outcomes orders end, after which no processor has a turn. The answer is `Told` with one of these, and its text is then
 /// written, whole:
 ///
-/// - `Found`: an order without an idle turn leads there, and none of fewer turns does. Its lines are told.
+/// - `Found`: an order of at most N turns, none of them idle, leads there, and none of fewer turns does. Its lines are told.
 /// - `All`: no order of the scenario's processors does, of whatever length. For `ends`: each order that ends the run does so with one of the outcomes
-///   that are told, each with an order without an idle turn that ends so; none of fewer turns does.
+///   that are told, each with an order of at most N turns, none of them idle, that ends so; none of fewer turns does.
 /// - `Within`: the same of orders of at most N turns.
 /// - `Cut`: more states were found than may be expanded, and nothing is said of orders but of those that are told.
 ///
 /// Where the question names an execution context, and none of the orders of `All` or `Within` leads to a state with it, the text says so.
 ///
-/// The text also has how many states were found, to each of which an order leads; states that are not seen to be equal count apart.
+/// The text also has how many states were found. To each an order leads, and each order that was gone along leads to one of them: so there are no
+/// more different ones. States that are not seen to be equal count apart.
 ///
 /// Other answers, each with its cause: Usage exactly where the words are no request. ReadFault only where the count of failed fetches of the name rose.
 /// TooLong where more bytes came than may, Scenario where those that came are none, with the first line at fault, and Absent where the scenario has no

@@ -16,7 +16,7 @@ fn write_alone(out: &mut String, cpus: u32) -> Result<(), AllocError>
     Ok(())
 }
 
-/// How far a search went.
+/// Writes how far a search went, `extent`.
 fn write_extent(out: &mut String, extent: Extent, limit: u32) -> Result<(), AllocError>
     ensures { OnOk result (string_bytes out.new ≡ string_bytes out.old ++ extent_line extent limit) }
 {
@@ -40,7 +40,7 @@ fn write_never(out: &mut String, extent: Extent, limit: u32) -> Result<(), Alloc
     }
 }
 
-/// How many states were found.
+/// Writes that `states` states were found.
 fn write_states(out: &mut String, states: usize) -> Result<(), AllocError>
     ensures { OnOk result (string_bytes out.new ≡ string_bytes out.old ++ states_line states) }
 {
@@ -57,7 +57,7 @@ fn write_absent(out: &mut String, extent: Extent, absent: Option<u32>) -> Result
     }
 }
 
-/// Bytes behind a text.
+/// `bytes` behind the text `out`.
 fn with_bytes(out: String, bytes: &[u8]) -> Result<Vec<u8>, AllocError>
     ensures { IfOk result (λ text. text.items ≡ string_bytes out ++ bytes.now) }
 {
@@ -66,7 +66,7 @@ fn with_bytes(out: String, bytes: &[u8]) -> Result<Vec<u8>, AllocError>
     Ok(out)
 }
 
-/// What is told of an order that leads to what was asked for.
+/// What is told of `order`, which leads to what was asked for.
 fn tell_found(alloc: Global, cpus: u32, order: &Order, states: usize) -> Result<Vec<u8>, AllocError>
     ensures { IfOk result (λ text. text.items ≡ found_text cpus states order.now.blocks) }
 {
@@ -96,7 +96,7 @@ fn tell_never(
     Ok(out.into_bytes())
 }
 
-/// What is told of an answer.
+/// What is told of `answer`.
 pub(crate) fn tell_answer(
     alloc: Global,
     cpus: u32,

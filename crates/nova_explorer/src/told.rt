@@ -21,7 +21,7 @@ pub(crate) struct Told {
     pub text: Vec<u8>,
 }
 
-/// The verdict of an answer.
+/// The verdict of `answer`.
 fn verdict_of(answer: &Answer) -> Verdict
     ensures { result ≡ verdict_of answer.now }
 {
@@ -31,7 +31,7 @@ fn verdict_of(answer: &Answer) -> Verdict
     }
 }
 
-/// What is told of a question on states.
+/// What is told of `request`, a question on states.
 fn tell_question(alloc: Global, scenario: &Scenario, request: &Request) -> Result<Told, AllocError>
     requires sound { IsSound scenario.now }
     requires bounds { HasBounds request.now }
@@ -49,7 +49,7 @@ fn tell_question(alloc: Global, scenario: &Scenario, request: &Request) -> Resul
     Ok(Told { verdict, text })
 }
 
-/// What is told of the outcomes of runs.
+/// What is told of `request`, on the outcomes of runs.
 fn tell_outcomes(alloc: Global, scenario: &Scenario, request: &Request) -> Result<Told, AllocError>
     requires sound { IsSound scenario.now }
     requires bounds { HasBounds request.now }
@@ -66,7 +66,7 @@ fn tell_outcomes(alloc: Global, scenario: &Scenario, request: &Request) -> Resul
     Ok(Told { verdict, text })
 }
 
-/// What is told of a request whose console or frame is there.
+/// What is told of `request`, whose console or frame is there.
 fn tell_from(alloc: Global, scenario: &Scenario, request: &Request) -> Result<Told, AllocError>
     requires sound { IsSound scenario.now }
     requires bounds { HasBounds request.now }
@@ -78,14 +78,16 @@ fn tell_from(alloc: Global, scenario: &Scenario, request: &Request) -> Result<To
     }
 }
 
-/// Whether a scenario has the console or the frame that a question is about.
+/// Whether `scenario` has the console or the frame that a question is about.
 fn has_place(scenario: &Scenario, question: &Question) -> bool
     requires { scenario.now.ram ≤ 14 }
     ensures { result ≡ has_place scenario.now question.now }
 {
     match question {
         Question::Console { console, .. } => *console < scenario.consoles,
-        Question::Word { frame, .. } => *frame < 1 << scenario.ram,
+        Question::Word { frame, .. } | Question::Stores { frame, .. } => {
+            *frame < 1 << scenario.ram
+        }
         Question::Blocked
         | Question::At { .. }
         | Question::AtBoth { .. }
@@ -93,11 +95,12 @@ fn has_place(scenario: &Scenario, question: &Question) -> bool
         | Question::DiesOf { .. }
         | Question::DiesBut { .. }
         | Question::Stuck { .. }
+        | Question::Hangs { .. }
         | Question::Ends => true,
     }
 }
 
-/// What is told of a request over its scenario, or why nothing is.
+/// What is told of `request` over its scenario, or why nothing is.
 pub(crate) fn tell(alloc: Global, scenario: &Scenario, request: &Request) -> Result<Told, Exit>
     requires sound { IsSound scenario.now }
     requires bounds { HasBounds request.now }

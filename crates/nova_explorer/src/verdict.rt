@@ -21,7 +21,7 @@ pub enum Verdict {
 }
 
 impl Verdict {
-    /// What is told where a search of this extent found nothing, or all that it was to find.
+    /// What is told where a search of `extent` found nothing, or all that it was to find.
     pub(crate) fn of_extent(extent: Extent) -> Verdict
         ensures { result ≡ of_extent extent }
     {

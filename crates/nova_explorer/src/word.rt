@@ -7,17 +7,19 @@ pub(crate) enum Word {
     Text,
     Word,
     At,
+    Stores,
     Blocked,
     Dies,
     But,
     Stuck,
+    Hangs,
     Ends,
 }
 
 impl Word {
     ghost use Rattle.nova_explorer.specs.Requests.{word_of};
 
-    /// The word that a text stands for.
+    /// The word that `text` stands for.
     pub(crate) fn from_text(text: &str) -> Option<Word>
         ensures { result ≡ word_of text.now }
     {
@@ -26,10 +28,12 @@ impl Word {
             "text" => Some(Word::Text),
             "word" => Some(Word::Word),
             "at" => Some(Word::At),
+            "stores" => Some(Word::Stores),
             "blocked" => Some(Word::Blocked),
             "dies" => Some(Word::Dies),
             "but" => Some(Word::But),
             "stuck" => Some(Word::Stuck),
+            "hangs" => Some(Word::Hangs),
             "ends" => Some(Word::Ends),
             _ => None,
         }

@@ -64,7 +64,7 @@ more_no_larger each old new x (inr more) few those = record {
   all = subst (λ xs. All (λ (x : Kept). size_of x.kernel.state ≤ each) xs) (sym more) (All-push (λ (x : Kept). size_of x.kernel.state ≤ each) old x those.all few);
 }
 
--- so many as fit at that take no more than there is
+-- as many as fit at `each` bytes take no more than there is
 pub within_most : (each most : ℕ) (xs : List Kept) → 0 < each → length xs ≤ most / each → AreNoLarger each xs → sizes_of xs ≤ most
 within_most each most xs some few those =
     let sum = sum_by-le (λ (x : Kept). size_of x.kernel.state) each xs those.all in

@@ -23,7 +23,7 @@ ahead (Raised reason q0 q1) r r' s s' o none h = (h.0, h.2 ∙ unstored s none)
 ahead (Went regs None) r r' s s' o none h = (h.0, h.2 ∙ unstored s none)
 ahead (Went regs (Some store)) r r' s s' o none h = (h.0, h.2)
 
--- an instruction that raises accesses nothing; one that goes on its store, or else the load that is missed
+-- an instruction that raises accesses nothing; an instruction that goes on its store, or else the load that is missed
 pub raises : (a : AddressSpace) (once unloaded : Once) (reason q0 q1 : ℕ) → Raise reason q0 q1 ≡ outcome_of once → None ≡ access_by a once unloaded
 raises a (Raised reason' q0' q1') unloaded reason q0 q1 is = refl
 raises a (Went regs store) unloaded reason q0 q1 is = absurd cc

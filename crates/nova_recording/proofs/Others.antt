@@ -1,4 +1,4 @@
--- No deed but an instruction that goes on stores, and only one that is about to execute makes it.
+-- No deed but an instruction that goes on stores, and only a context that is about to execute makes it.
 use Rattle.std.proofs.Common.{◌≡◌, ℕ, refl, ap}
 use Rattle.std.specs.Prelude.{Bool, true, false, not, ◌&&◌, Option, Some, None, Result, Ok, Err}
 use Rattle.nova_calls.specs.declared.call.Call.{Call}
@@ -74,7 +74,7 @@ delivers_none k ec = record {
   finishes = λ v end answer present is. refl;
 }
 
--- who is not about to execute stores nothing
+-- a context that is not about to execute stores nothing
 pub no_store : (k : KernelState) (ec : ℕ) → is_going (context k ec) ≡ false → NoStore k ec (deed k ec)
 unfolding deed
 no_store k ec not_going = by_state (context k ec).state refl not_going

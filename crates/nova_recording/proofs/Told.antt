@@ -29,7 +29,7 @@ use Rattle.nova_recording.specs.declared.preview.Access.{Access}
 use Rattle.nova_recording.specs.declared.wants.Next.{Next}
 use Rattle.nova_recording.proofs.Others.{no_store}
 
--- what is told of one that acts
+-- what is told of a context that acts
 abbrev told : KernelState → ℕ → Bool → Option Access
 told k ec going = if going then accessed k ec else None
 
@@ -38,7 +38,7 @@ told_of : (k : KernelState) (ec : ℕ) (going : Bool) (next : Next) → next.ec 
 told_of k ec true next is = ap (accessed k) is
 told_of k ec false next is = refl
 
--- of the turn of one that acts, and of one in which nobody does
+-- of the turn of a context that acts, and of a turn in which none does
 acting_told : (k : KernelState) (cpu : ℕ) (c : Candidate) → access_by k (Some (event_of cpu c (deed k c.actor))) ≡ told k c.actor (is_going (context k c.actor))
 acting_told k cpu c = rw (acting_kind (deed k c.actor)) (told_of k c.actor (is_going (context k c.actor)) _ refl)
 
@@ -67,7 +67,7 @@ instruction_puts k ec (Went regs None) unloaded = sym (missed_stays k.memory (ad
 instruction_puts k ec (Went regs (Some s)) unloaded =
     let to = frame_for (address_space k ec) write_right s.address in store_puts k.memory s to to
 
--- one that is about to execute is there, and its deed is that of its instruction
+-- a context that is about to execute is there, and its deed is that of its instruction
 going_deed : (k : KernelState) (ec : ℕ) → is_going (context k ec) ≡ true → deed k ec ≡ stepping k ec (instruction k ec)
 unfolding deed
 going_deed k ec going = by_state (context k ec).state going
@@ -115,7 +115,7 @@ told_is_change k cpu e answers =
     (λ c chosen state. ap (λ (s : KernelState). s.memory) state ∙ deed_puts k c.actor (is_going (context k c.actor)) refl
     ∙ ap (memory_after k.memory) (sym (acting_told k cpu c)))
 
--- one whose event is no step accesses nothing
+-- a context whose event is no step accesses nothing
 stepping_told : (k : KernelState) (ec : ℕ) (o unloaded : Once) → (sign_of (stepping k ec o)).0 ≢ event.Step → of.access_by (address_space k ec) o unloaded ≡ None
 stepping_told k ec (Raised reason q0 q1) unloaded other = refl
 stepping_told k ec (Went regs store) unloaded other = absurd (other refl)

@@ -60,7 +60,7 @@ is_next k s t events n e told at there more went counted cpus = record {
     one_turn k s t n (Stepped event) counted fewer = grind (arith, counted, fewer)
     one_turn k s t n Idle counted fewer = grind (arith, counted, fewer)
 
--- who takes it is there
+-- the processor that takes it is there
 pub is_there : (n : ℕ) (events : List Event) (i : ℕ) (e : Event) → AllByRecursion (λ (x : Event). x.cpu < n) events → slice_get events i ≡ Some e → e.cpu < n
 is_there n [] i e all there = absurd (cc)
 is_there n (x ∷ events) zero e all there = subst (λ (y : Event). y.cpu < n) (let same : x ≡ e = cc in same) all.0

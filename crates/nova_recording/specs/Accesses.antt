@@ -1,4 +1,5 @@
--- What the next instruction loads or stores, by the model's own instruction: one that goes on alone does either, with its right and alignment.
+-- What the next instruction loads or stores, by the model's own instruction: only an instruction that goes on does either, with its right and
+-- alignment.
 use Rattle.std.specs.Prelude.{ℕ, ◌%◌, ◌==◌, Bool, true, false, if◌then◌else◌, Option, Some, None, option_map}
 use Rattle.rv_model.specs.Step.{Space, Store, Once, Raised, Went, one, load_fault}
 use Rattle.nova_model.specs.Numbers.{EcId}
@@ -39,7 +40,7 @@ access_by a (Went regs None) unloaded = load_missed a unloaded
 abbrev pub unloaded : KernelState → EcId → Once
 unloaded k ec = one (context k ec).regs (without_loads (space (address_space k ec)))
 
--- what the next instruction of an execution context loads or stores, where one is there
+-- what the next instruction of an execution context loads or stores, where a context is there
 abbrev pub access_in : KernelState → EcId → Option EcState → Option Access
 access_in k ec (Some x) = access_by (address_space k ec) (instruction k ec) (unloaded k ec)
 access_in k ec None = None

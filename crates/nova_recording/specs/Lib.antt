@@ -1,4 +1,4 @@
-pub use Rattle.nova_shared.specs.Finished
+pub use Rattle.nova_finished.specs.Finished
 pub mod Copies
 pub mod Recordings
 pub mod Accesses

@@ -1,11 +1,11 @@
--- A run that was made, and the state after so many of its turns.
+-- A run that was made, and the state after some of its turns.
 use Rattle.std.specs.Prelude.{◌≡◌, ℕ, ◌+◌, ◌^◌, ◌<◌, ◌≤◌, List, length, map, take}
 use Rattle.std.specs.List.{AllByRecursion}
 use Rattle.nova_model.specs.State.{KernelState}
 use Rattle.nova_model.specs.Runs.{IsFreeOfIdle, run}
 use Rattle.nova_model.specs.declared.event.Event.{Event}
-use Rattle.nova_shared.specs.Finished.{IsFinished}
-use Rattle.nova_shared.specs.declared.finished.Finished.{Finished}
+use Rattle.nova_finished.specs.Finished.{IsFinished}
+use Rattle.nova_finished.specs.declared.finished.Finished.{Finished}
 use Rattle.nova_recording.specs.Copies.{sizes_of}
 use Rattle.nova_recording.specs.declared.copies.Kept.{Kept}
 
@@ -13,22 +13,22 @@ use Rattle.nova_recording.specs.declared.copies.Kept.{Kept}
 abbrev pub order_of : List Event → List ℕ
 order_of events = map (λ (e : Event). e.cpu) events
 
--- the state after so many turns of a run: that after the first entries of its order
+-- the state after `n` turns of a run: that after the first entries of its order
 abbrev pub at_turn : KernelState → List Event → ℕ → KernelState
 at_turn k events n = run k (order_of (take n events))
 
--- the state after so many turns, of which there are as many
+-- the state after `turn` turns, of which there are as many
 pub record IsAt (k : KernelState) (events : List Event) (turn : ℕ) (s : KernelState) : Type 0 where
   pub within : turn ≤ length events
   pub state : s ≡ at_turn k events turn
   pub counted : s.turns ≤ k.turns + turn
   pub cpus : s.cpus ≡ k.cpus
 
--- one that is kept
+-- a state that is kept
 abbrev pub IsKept : KernelState → List Event → Kept → Type 0
 IsKept k events kept = IsAt k events kept.turn kept.kernel.state
 
--- the turns are of processors that are there, and a kernel may take so many
+-- the turns are of processors that are there, and a kernel may take as many
 pub record AreTurns (k : KernelState) (events : List Event) : Type 0 where
   pub cpus : AllByRecursion (λ (e : Event). e.cpu < k.cpus) events
   pub few : k.turns + length events ≤ 2 ^ 31

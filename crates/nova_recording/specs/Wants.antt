@@ -1,4 +1,4 @@
--- Which turns are wanted: by what the one that acts in them is about to do.
+-- Which turns are wanted: by what the context that acts in them is about to do.
 use Rattle.std.specs.Prelude.{◌≡◌, ℕ, ◌+◌, ◌<◌, ◌≤◌, ◌==◌, ◌&&◌, ◌||◌, Bool, true, false, if◌then◌else◌, List, Option, Some, None, slice_get, option_and_then}
 use Rattle.std.specs.List.{list_any}
 use Rattle.law_forest.specs.Turns.{is_passing}
@@ -24,7 +24,7 @@ next_in x pd ec = if is_going x then Some (record { ec = ec; pd = pd; pc = x.reg
 abbrev pub next_of : KernelState → ℕ → Option Next
 next_of k ec = next_in (context k ec) (pd_of k ec) ec
 
--- that of a turn with this event: nobody acts where a deadline, an alarm or a tick comes
+-- that of a turn with this event: none acts where a deadline, an alarm or a tick comes
 abbrev pub next_by : KernelState → Option Event → Option Next
 next_by k (Some e) = if is_passing e.kind then None else next_of k e.ec
 next_by k None = None
@@ -42,7 +42,7 @@ abbrev pub is_wanted : Search → KernelState → Option Next → Bool
 is_wanted search k (Some next) = list_any (is_met next) search.wants.items || is_seen_by search.watches.items (accessed k next.ec)
 is_wanted search k None = false
 
--- whether the turn after so many is wanted
+-- whether the next turn is wanted
 abbrev pub wanted_in : Search → KernelState → Option Event → Bool
 wanted_in search k event = is_wanted search k (next_by k event)
 

@@ -16,6 +16,10 @@ is_on a watch None = false
 abbrev pub is_seen : Access → Watch → Bool
 is_seen a watch = (if is_some a.stored then watch.stores else watch.loads) && is_on a watch a.frame
 
+abbrev pub is_seen_in : Option Access → Watch → Bool
+is_seen_in (Some a) watch = is_seen a watch
+is_seen_in None watch = false
+
 abbrev pub is_seen_by : List Watch → Option Access → Bool
 is_seen_by watches (Some a) = list_any (is_seen a) watches
 is_seen_by watches None = false

@@ -5,23 +5,23 @@ use nova_kernel::Kernel;
 use std::alloc::{AllocError, Global};
 use std::marker::Model;
 
-/// The state after so many turns of a run, to go on from.
+/// The state after `turn` turns of a run, to go on from.
 #[derive(Drop)]
 pub(crate) struct Kept {
     pub(crate) turn: usize,
     pub(crate) kernel: Kernel,
 }
 
-/// States that are kept on the way, by rising turn, one each so many turns. They take at most so many bytes, where each is taken to be as
-/// large as the largest. Where one more would be too many, every second one is let go, and from then on they are kept half as often.
+/// States that are kept on the way, by rising turn, one each `spacing` turns. They take at most `most` bytes, where each is taken to be as large as
+/// the largest. Where one more would be too many, every second is let go, and from then on they are kept half as often.
 #[derive(Drop)]
 pub(crate) struct Copies {
     kept: Vec<Kept>,
     /// The most bytes of all.
     most: usize,
-    /// The most bytes of one so far.
+    /// The most bytes of a kept state so far.
     each: usize,
-    /// How many turns one is after another.
+    /// How many turns a kept state is after another.
     spacing: usize,
     /// The turn of which the next is kept.
     next: usize,
@@ -38,7 +38,7 @@ impl Model for Copies {
     ghost invariant = { λ c. (0 < c.each) × ((length c.kept.items ≤ c.most / c.each) × AreNoLarger c.each c.kept.items) };
 }
 
-/// Lets every second one go, from the second on.
+/// Lets every second of `kept` go, from the second on.
 fn thin(kept: &mut Vec<Kept>)
     ensures among { AreAmong kept.new.items kept.old.items }
     ensures half { vec_len kept.new ≡ (vec_len kept.old + 1) / 2 }
@@ -50,7 +50,8 @@ fn thin(kept: &mut Vec<Kept>)
     kept.truncate(half);
 }
 
-/// Lets every second one go until there are at most so many, and at least one may be; and how far they are from one another then.
+/// Lets every second of `kept` go until there are at most `most`, which is at least 1; and returns how far they are from one another then, where they
+/// were `spacing`.
 fn fit(kept: &mut Vec<Kept>, most: usize, spacing: usize) -> usize
     requires { 0 < most }
     ensures among { AreAmong kept.new.items kept.old.items }
@@ -64,7 +65,7 @@ fn fit(kept: &mut Vec<Kept>, most: usize, spacing: usize) -> usize
     spacing
 }
 
-/// Makes room for one more where there may be so many; and how far they are from one another then.
+/// Makes room for one more of `kept`, where there may be `most`; and returns how far they are from one another then, where they were `spacing`.
 #[tactic(auto, using(crate::proofs::Copied::none_among))]
 fn make_room(kept: &mut Vec<Kept>, most: usize, spacing: usize) -> usize
     ensures among { AreAmong kept.new.items kept.old.items }
@@ -86,7 +87,7 @@ fn newest_of(kept: &[Kept], to: usize) -> Option<&Kept>
 }
 
 impl Copies {
-    /// None, and none is kept.
+    /// No kept states, and none is to be kept.
     #[tactic(auto, using(crate::proofs::Copied::none_larger))]
     pub(crate) fn none(alloc: Global) -> Copies
         ensures { result ≡ record { kept = []; most = 0; each = 1 } }
@@ -111,12 +112,12 @@ impl Copies {
         self.next = turn;
     }
 
-    /// Whether a state is to be kept of a turn: its turn has come, and one is not thought to be larger than all may be.
+    /// Whether a state is to be kept of `turn`: its turn has come, and a state is not thought to be larger than all may be.
     pub(crate) fn is_due(&self, turn: usize) -> bool {
         turn >= self.next && self.each <= self.most
     }
 
-    /// Makes room for one more that takes so many bytes.
+    /// Makes room for one more state, which takes `bytes` bytes.
     pub(crate) fn make_room(&mut self, bytes: usize)
         ensures among { AreAmong self.new.kept self.old.kept }
         ensures most { self.new.most ≡ self.old.most }
@@ -131,7 +132,7 @@ impl Copies {
         }
     }
 
-    /// Keeps the state of a turn, where there is room for it, and the next one so many turns later.
+    /// Keeps the state `kept`, where there is room for it; the next is kept `spacing` turns later.
     pub(crate) fn add(&mut self, kept: Kept) -> Result<(), AllocError>
         requires size { size_of kept.kernel.state ≤ self.old.each }
         ensures more { IsMore self.old.kept kept self.new.kept }
@@ -145,7 +146,7 @@ impl Copies {
         Ok(())
     }
 
-    /// The newest that is kept of the turns up to one.
+    /// The newest that is kept of the turns up to `to`.
     pub(crate) fn newest(&self, to: usize) -> Option<&Kept>
         ensures kept { IfSome result (λ k. Contains self.now.kept k.now) }
         ensures before { IfSome result (λ k. k.now.turn ≤ to) }

@@ -5,7 +5,7 @@ use nova_model::Event;
 use nova_trace::{Repeated, Trace};
 use std::alloc::{AllocError, Global};
 
-/// Adds an event so many times at the end.
+/// Adds the event of `entry` at the end, as many times as it comes.
 #[tactic(auto, using(crate::proofs::Expanding::added_next))]
 fn add_times(events: &mut Vec<Event>, entry: Repeated) -> Result<(), AllocError>
     ensures { OnOk result (events.new.items ≡ events.old.items ++ replicate entry.count entry.event) }
@@ -16,7 +16,7 @@ fn add_times(events: &mut Vec<Event>, entry: Repeated) -> Result<(), AllocError>
     Ok(())
 }
 
-/// The events of a trace one by one, so that each is found by its turn.
+/// The events of `trace` one by one, so that each is found by its turn.
 #[tactic(auto, using(crate::proofs::Expanding::entry_next, crate::proofs::Expanding::all_listed))]
 pub(crate) fn listed(alloc: Global, trace: &Trace) -> Result<Vec<Event>, AllocError>
     ensures { IfOk result (λ events. events.items ≡ trace.now.items) }

@@ -5,7 +5,7 @@ use crate::recording::Recording;
 use std::alloc::AllocError;
 
 impl Recording {
-    /// Whether a state is kept of a turn after the present one and up to another.
+    /// Whether a state is kept of a turn after the present one and up to `to`.
     fn is_kept_before(&self, to: usize) -> bool {
         matches!(self.copies.newest(to), Some(kept) if kept.turn > self.turn())
     }
@@ -22,7 +22,7 @@ impl Recording {
         Ok(())
     }
 
-    /// Takes the newest state that is kept of the turns up to one, or begins anew.
+    /// Takes the newest state that is kept of the turns up to `to`, or begins anew.
     fn resume(&mut self, to: usize) -> Result<(), AllocError>
         ensures turn { OnOk result (self.new.turn ≤ to) }
         ensures err { OnErr result (self.new ≡ self.old) }
@@ -38,7 +38,7 @@ impl Recording {
         Ok(())
     }
 
-    /// Goes on to a turn that is not before the present one.
+    /// Goes on to the turn `to`, which is not before the present one.
     fn forward(&mut self, to: usize) -> Result<(), AllocError>
         requires ahead { self.old.turn ≤ to }
         requires within { to ≤ length self.old.events }
@@ -54,8 +54,8 @@ impl Recording {
         Ok(())
     }
 
-    /// Goes to the state after `to` turns, which the run has, in either direction. Where memory runs out it is at the same turn, or at one
-    /// that is not after `to`.
+    /// Goes to the state after `to` turns, which the run has, in either direction. Where memory runs out it is at the same turn, or at a turn that is
+    /// not after `to`.
     pub fn go(&mut self, to: usize) -> Result<(), AllocError>
         requires within { to ≤ length self.old.events }
         ensures turn { OnOk result (self.new.turn ≡ to) }

@@ -16,7 +16,7 @@ pub fn a_store_told_is_the_change_of_its_turn()
         → (after k cpu).memory ≡ memory_after k.memory (access_by k (Some e)) }
 {}
 
-/// Of a turn whose event is no step no load and no store is told: of one that raises neither.
+/// A turn whose event is no step, as that of an instruction that raises, tells no load and no store.
 pub fn a_turn_that_raises_stores_nothing()
     ensures none { (k : KernelState) (cpu : ℕ) (e : Event) → answer_of (turn k cpu) ≡ Stepped e → e.kind ≢ Step
         → access_by k (Some e) ≡ None }

@@ -15,4 +15,4 @@ mod watches;
 pub use preview::Access;
 pub use recording::Recording;
 pub use wants::{Next, Search, Want, is_passing};
-pub use watches::Watch;
+pub use watches::{Watch, is_next_seen};

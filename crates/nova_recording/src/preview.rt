@@ -1,11 +1,10 @@
-ghost use Rattle.std.specs.Prelude.{◌≡◌, ◌+◌, ◌<◌, ◌≤◌, ◌%◌, ◌*◌, ◌^◌, ◌==◌, is_some, slice_get, length, true, false, None, option_map, IfSome, IfOk, OnOk, OnErr};
+ghost use Rattle.std.specs.Prelude.{◌≡◌, ◌<◌, ◌%◌, ◌*◌, ◌^◌, ◌==◌, slice_get, true, false, None, option_map, IfOk};
 ghost use Rattle.rv_model.specs.Step.{one};
 ghost use Rattle.nova_guest.specs.Frames.{frame_from, read_in};
 ghost use Rattle.nova_guest.specs.Conditions.{IsWidth};
 ghost use Rattle.nova_model.specs.AddressSpaces.{frame_for, space, words_at};
 ghost use Rattle.nova_model.specs.Deeds.{address_space};
-ghost use Rattle.nova_kernel.specs.Views.{turns_taken};
-ghost use Rattle.nova_model.specs.Turn.{state_after, turn};
+ghost use Rattle.nova_kernel.specs.Views.{IsTurnTaken};
 ghost use Rattle.nova_model.specs.State.{context_at, is_thread, message, pd_of};
 ghost use Rattle.nova_recording.specs.Accesses.{PreviewState, access_by, accessed, begun, found, load_at, load_missed, outcome_of, seen, stored_by, without_loads};
 
@@ -118,11 +117,7 @@ impl Preview {
         requires cpu { cpu < self.old.kernel.state.cpus }
         requires room { 0 < self.old.kernel.room }
         requires turns { self.old.kernel.state.turns < 2 ^ 31 }
-        ensures state { OnOk result (self.new.kernel.state ≡ state_after self.old.kernel.state (turn self.old.kernel.state cpu)) }
-        ensures memory { OnErr result (self.new.kernel ≡ self.old.kernel) }
-        ensures room { self.old.kernel.room ≤ self.new.kernel.room + 1 }
-        ensures counted { IfOk result (λ t. self.new.kernel.state.turns ≡ self.old.kernel.state.turns + turns_taken t) }
-        ensures cpus { self.new.kernel.state.cpus ≡ self.old.kernel.state.cpus }
+        ensures { IsTurnTaken self.old.kernel self.new.kernel cpu result }
     {
         self.kernel.turn(cpu)
     }

@@ -7,14 +7,14 @@ use crate::copies::{Copies, Kept};
 use crate::events::listed;
 use crate::preview::Preview;
 use crate::sizes::bytes_of;
+use nova_finished::Finished;
 use nova_kernel::{Event, Kernel, Rights};
-use nova_shared::Finished;
 use nova_trace::Trace;
 use std::alloc::{AllocError, Global};
 use std::marker::Model;
 
-/// A run that was made, in the state after so many of its turns. States on the way are kept, so that it goes back from the newest of
-/// them; each is the state of its own turn, and together they take no more bytes than may be.
+/// A run that was made, in the state after `turn` of its turns. States on the way are kept, so that it goes back from the newest of them; each is the
+/// state of its own turn, and together they take no more bytes than may be.
 #[derive(Drop)]
 pub struct Recording {
     opening: Kernel,
@@ -45,7 +45,7 @@ impl Model for Recording {
         × (All (IsKept r.opening.state r.events.items) r.copies.kept × (sizes_of r.copies.kept ≤ r.copies.most))) };
 }
 
-/// What is let go here is dropped apart from all else.
+/// Drops a value out of line, which keeps the caller's proof small.
 fn let_go<T: Drop>(_value: T) {}
 
 /// What a recording begins with: the events of its turns one by one, and the state at the beginning once more.
@@ -54,7 +54,7 @@ struct Begun {
     kernel: Kernel,
 }
 
-/// The events of a trace, and a kernel once more.
+/// The events of `trace`, and a copy of `opening`.
 fn begin(alloc: Global, opening: &Kernel, trace: &Trace) -> Result<Begun, AllocError>
     ensures events { IfOk result (λ begun. begun.events.items ≡ trace.now.items) }
     ensures kernel { IfOk result (λ begun. begun.kernel.state ≡ opening.now.state) }
@@ -65,7 +65,7 @@ fn begin(alloc: Global, opening: &Kernel, trace: &Trace) -> Result<Begun, AllocE
 }
 
 impl Recording {
-    /// A run that is over, in the state at its beginning. No state is kept on the way.
+    /// The recording of `run`, which is over, in the state at its beginning. No state is kept on the way.
     pub fn new(alloc: Global, run: Finished) -> Result<Recording, AllocError>
         requires { IsDone run }
         ensures opening { IfOk result (λ r. r.opening ≡ run.opening.state) }
@@ -115,7 +115,7 @@ impl Recording {
         self.copies.begin(bytes, spacing.max(1), self.turn);
     }
 
-    /// How many turns were taken to the present state, which is that after the first so many entries of the run's order.
+    /// How many turns were taken to the present state, which is that after as many first entries of the run's order.
     pub fn turn(&self) -> usize
         ensures turn { result ≡ self.now.turn }
         ensures state { IsAt self.now.opening self.now.events self.now.turn self.now.state }
@@ -147,7 +147,7 @@ impl Recording {
         &self.preview.kernel
     }
 
-    /// What a page of a protection domain leads to in the present state: a frame, and what is allowed there; none where it leads nowhere.
+    /// What `page` of the protection domain `pd` leads to in the present state: a frame, and what is allowed there; none where it leads nowhere.
     pub fn reach(&mut self, pd: u32, page: u32) -> Option<(u32, Rights)>
         ensures page { result ≡ option_map (λ p. (p.frame, p.rights)) (reach self.old.state.delegations.list pd page) }
         ensures at { IsAt self.old.opening self.old.events self.old.turn self.old.state }
@@ -156,7 +156,7 @@ impl Recording {
         self.preview.kernel.reach(pd, page)
     }
 
-    /// Makes room for so many turns more in the console log.
+    /// Makes room for `turns` turns more in the console log.
     pub(crate) fn reserve(&mut self, turns: usize) -> Result<(), AllocError>
         ensures ok { OnOk result (self.new ≡ record self.old { room = max self.old.room turns }) }
         ensures err { OnErr result (self.new ≡ self.old) }
@@ -202,7 +202,7 @@ impl Recording {
         Ok(())
     }
 
-    /// Takes another state of the run in place of the present one.
+    /// Takes `kernel`, the state of the run after `turn` turns, in place of the present one.
     pub(crate) fn take(&mut self, turn: usize, kernel: Kernel)
         requires { IsAt self.old.opening self.old.events turn kernel.state }
         ensures taken { self.new ≡ record self.old { turn = turn; state = kernel.state; room = kernel.room } }

@@ -7,7 +7,7 @@ use crate::wants::Search;
 use std::alloc::AllocError;
 
 impl Recording {
-    /// The present turn where it does something that one looks for, else the one that was found before.
+    /// The present turn where it does something that `search` looks for, else the turn `found` before.
     fn latest(&mut self, search: &Search, found: Option<usize>) -> Option<usize>
         ensures latest { result ≡ latest search.now self.old found }
         ensures kept { self.new ≡ self.old }
@@ -40,8 +40,8 @@ impl Recording {
         Ok(false)
     }
 
-    /// Goes on to a turn, and tells the last one before it that does something that one looks for, of the present one and those after it.
-    /// Where memory runs out, it is in the state of a turn on the way.
+    /// Goes on to the turn `to`, and tells the last turn before it that does something that `search` looks for, of the present turn and those after
+    /// it. Where memory runs out, it is in the state of a turn on the way.
     pub fn last(&mut self, search: &Search, to: usize) -> Result<Option<usize>, AllocError>
         requires ahead { self.old.turn ≤ to }
         requires within { to ≤ length self.old.events }

@@ -19,8 +19,8 @@ const DERIVATION: usize = 128;
 /// A byte in the console log.
 const LOGGED: usize = 8;
 
-/// The bytes that a state takes where it is kept, by how much it has of what grows; none where a `usize` is too small. An estimate: nothing is
-/// measured.
+/// The bytes that the state of `kernel` takes where it is kept, by how much it has of what grows; none where a `usize` is too small. An estimate:
+/// nothing is measured.
 pub(crate) fn bytes_of(kernel: &Kernel) -> Option<usize>
     ensures bytes { IfSome result (λ bytes. bytes ≡ size_of kernel.now.state) }
     ensures some { IfSome result (λ bytes. 0 < bytes) }

@@ -17,7 +17,7 @@ pub struct Next {
     pub pc: u32,
 }
 
-/// What one looks for.
+/// What a search looks for.
 #[derive(Clone, Copy)]
 pub enum Want {
     /// The instruction at an address of a protection domain.
@@ -26,7 +26,7 @@ pub enum Want {
     By { ec: u32 },
 }
 
-/// All that one looks for: instructions, and bytes that are loaded or stored.
+/// All that a search looks for: instructions, and bytes that are loaded or stored.
 #[derive(Drop)]
 pub struct Search {
     pub wants: Vec<Want>,
@@ -34,7 +34,7 @@ pub struct Search {
 }
 
 impl Next {
-    /// Whether it is what one looks for.
+    /// Whether the instruction is what `want` looks for.
     fn is_met(&self, want: Want) -> bool
         ensures { result ≡ is_met self.now want }
     {
@@ -44,7 +44,7 @@ impl Next {
         }
     }
 
-    /// Whether it is some of what one looks for.
+    /// Whether the instruction is what one of `wants` looks for.
     fn is_any(&self, wants: &[Want]) -> bool
         ensures { result ≡ list_any (is_met self.now) wants.now }
     {
@@ -58,7 +58,7 @@ fn is_ready(state: State) -> bool
     matches!(state, State::Ready)
 }
 
-/// The instruction that an execution context is about to execute; none where it is about to do anything else.
+/// The instruction that the execution context `ec` is about to execute; none where it is about to do anything else.
 pub fn next_of(kernel: &Kernel, ec: u32) -> Option<Next>
     ensures { result ≡ next_of kernel.now.state ec }
 {
@@ -73,7 +73,7 @@ pub fn next_of(kernel: &Kernel, ec: u32) -> Option<Next>
     })
 }
 
-/// Whether an event is a deadline, an alarm or a tick, in whose turn nobody acts.
+/// Whether an event of `kind` is a deadline, an alarm or a tick, in whose turn none acts.
 pub fn is_passing(kind: EventKind) -> bool
     ensures { result ≡ is_passing kind }
 {
@@ -93,7 +93,7 @@ impl Recording {
         next_of(self.kernel(), event.ec)
     }
 
-    /// Whether the next turn does something that one looks for.
+    /// Whether the next turn does something that `search` looks for.
     pub(crate) fn is_wanted(&mut self, search: &Search) -> bool
         ensures wanted { result ≡ wanted_in search.now self.old.state (slice_get self.old.events self.old.turn) }
         ensures kept { self.new ≡ self.old }

@@ -3,11 +3,12 @@ ghost use Rattle.std.specs.List.{list_any};
 ghost use Rattle.nova_recording.specs.Accesses.{accessed};
 ghost use Rattle.nova_recording.specs.Recordings.{IsAt};
 ghost use Rattle.nova_recording.specs.Wants.{access_by};
-ghost use Rattle.nova_recording.specs.Watches.{is_on, is_seen, is_seen_by, overlaps};
+ghost use Rattle.nova_recording.specs.Watches.{is_on, is_seen, is_seen_by, is_seen_in, overlaps};
 
-use crate::preview::Access;
+use crate::preview::{Access, Preview};
 use crate::recording::Recording;
 use crate::wants::Next;
+use nova_kernel::Kernel;
 
 /// Bytes of a frame, of which one looks for loads, stores or both.
 #[derive(Clone, Copy)]
@@ -59,6 +60,17 @@ impl Access {
         ensures { result ≡ list_any (is_seen self.now) watches.now }
     {
         watches.iter().any(|watch| self.is_seen(*watch))
+    }
+}
+
+/// Whether the next instruction of an execution context of a kernel loads or stores bytes that are watched, as is looked for.
+pub fn is_next_seen(kernel: Kernel, ec: u32, watch: Watch) -> bool
+    ensures { result ≡ is_seen_in (accessed kernel.state ec) watch }
+{
+    let mut preview = Preview::new(kernel);
+    match preview.access(ec) {
+        Some(access) => access.is_seen(watch),
+        None => false,
     }
 }
 

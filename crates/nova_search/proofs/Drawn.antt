@@ -1,16 +1,16 @@
 -- Edges that are entered one by one, while states are found behind those that were.
 use Rattle.std.proofs.Common.{◌≡◌, ◌⊎◌, ℕ, ◌+◌, ◌<◌, ◌≤◌, List, [], ◌∷◌, ◌++◌, length, refl, ap, sym, subst, ◌∙◌, append_assoc, arith, inl, inr}
-use Rattle.std.specs.Prelude.{Option, Some, None, Contains, slice_index_or}
+use Rattle.std.specs.Prelude.{Contains, slice_index_or}
 use Rattle.std.proofs.lemmas.List.{append-nil, length-append, length-map}
 use Rattle.std.proofs.lemmas.List.Elements.{Contains-append_left, Contains-push}
 use Rattle.nova_model.specs.State.{KernelState}
 use Rattle.nova_model.specs.Runs.{after}
-use Rattle.nova_compare.specs.Steps.{IsNext, IsSuccessor}
+use Rattle.nova_compare.specs.Steps.{IsSuccessor}
 use Rattle.nova_search.specs.declared.edges.Edge.{Edge}
 use Rattle.nova_search.specs.declared.found.Found.{Found}
 use Rattle.nova_search.specs.Edges.{AreTried, AreUpTo, Extends, IsAt, IsEdge, IsLed, IsTried, edge}
 use Rattle.nova_search.specs.Searches.{Grows, IsMore, IsVisited, state_at, state_of, states_of}
-use Rattle.nova_search.proofs.Growth.{at_front, grows_by, place, state_here, still_at}
+use Rattle.nova_search.proofs.Growth.{at_front, grows_by, place, stays_at, still_at}
 
 pub longer : (xs ys : List KernelState) (turns : ℕ) → Grows xs ys turns → length xs ≤ length ys
 longer xs ys turns grows = let whole = ap length grows.whole in let sum = length-append xs grows.more in omega (arith, whole, sum)
@@ -118,44 +118,37 @@ up_to_more states es e n up same is = record {
     rising_by i j d ordered (inr last) (inl less) = absurd (omega (arith, ordered, last, less))
 
 -- where the state at a place has no turn of a processor
-pub idle_tried : (xs : List Found) (es : List Edge) (n cpu : ℕ) (f : Found) (next : Option KernelState) → n < length xs → f ≡ slice_index_or xs n f → IsNext (state_of f) cpu next →
-    next ≡ None → IsTried (states_of xs) es n cpu
-idle_tried xs es n cpu f next less is came none d =
-    let same = state_here xs n f d less is in
-    let idle : after (state_of f) cpu ≡ state_of f = subst (λ (o : Option KernelState). IsNext (state_of f) cpu o) none came in
-    inl (ap (λ (s : KernelState). after s cpu) same ∙ idle ∙ sym same)
+pub idle_tried : (xs : List Found) (es : List Edge) (n cpu : ℕ) (s : KernelState) → ((d : KernelState) → state_at xs n d ≡ s) → after s cpu ≡ s → IsTried (states_of xs) es n cpu
+idle_tried xs es n cpu s here idle d = inl (ap (λ (x : KernelState). after x cpu) (here d) ∙ idle ∙ sym (here d))
 
 -- where it has, and the state after it was entered
-module _ (xs ys : List Found) (es : List Edge) (f g : Found) (to : ℕ) (next : Option KernelState) (less : g.from < length xs) (is : f ≡ slice_index_or xs g.from f)
-    (came : IsNext (state_of f) g.cpu next) (some : next ≡ Some g.vertex) (there : g.cpu < (state_of f).cpus) (more : IsMore xs g ys) (at : IsAt (states_of ys) to (state_of g)) where
-  succeeds : IsSuccessor (state_of f) g.cpu (state_of g)
-  succeeds = subst (λ (o : Option KernelState). IsNext (state_of f) g.cpu o) some came
+module _ (xs ys : List Found) (es : List Edge) (n cpu to : ℕ) (s t : KernelState) (less : n < length xs) (here : (d : KernelState) → state_at xs n d ≡ s)
+    (next : IsSuccessor s cpu t) (there : cpu < s.cpus) (more : IsMore xs n cpu t ys) (at : IsAt (states_of ys) to t) where
+  grows : Grows (states_of xs) (states_of ys) (s.turns + 1)
+  grows = grows_by xs ys n cpu t (s.turns + 1) more next.turns
 
-  grows : Grows (states_of xs) (states_of ys) ((state_of f).turns + 1)
-  grows = grows_by xs ys g ((state_of f).turns + 1) more succeeds.turns
+  its : (d : KernelState) → state_at ys n d ≡ s
+  its = stays_at xs ys n s less grows here
 
-  here : (d : KernelState) → state_at ys g.from d ≡ state_of f
-  here d = still_at (states_of xs) (states_of ys) g.from d grows (let long = length-map xs state_of in omega (arith, less, long)) ∙ state_here xs g.from f d less is
-
-  is_edge : IsEdge (states_of ys) (edge g.from to)
+  is_edge : IsEdge (states_of ys) (edge n to)
   is_edge = record {
-    from = let long = length-map xs state_of in let longer = longer (states_of xs) (states_of ys) ((state_of f).turns + 1) grows in omega (arith, less, long, longer);
+    from = let long = length-map xs state_of in let longer = longer (states_of xs) (states_of ys) (s.turns + 1) grows in omega (arith, less, long, longer);
     to = at.there;
-    cpu = g.cpu;
-    processor = λ d. subst (λ (s : KernelState). g.cpu < s.cpus) (sym (here d)) there;
+    cpu = cpu;
+    processor = λ d. subst (λ (x : KernelState). cpu < x.cpus) (sym (its d)) there;
     next = λ d.
-        subst (λ (s : KernelState). IsSuccessor s g.cpu (state_at ys to d)) (sym (here d))
-        (subst (λ (t : KernelState). IsSuccessor (state_of f) g.cpu t) (sym (at.is d)) succeeds);
+        subst (λ (x : KernelState). IsSuccessor x cpu (state_at ys to d)) (sym (its d))
+        (subst (λ (x : KernelState). IsSuccessor s cpu x) (sym (at.is d)) next);
   }
 
-  pub entered_up_to : AreUpTo (states_of xs) es g.from → AreUpTo (states_of ys) (es ++ edge g.from to ∷ []) g.from
-  entered_up_to up = up_to_more (states_of ys) es (edge g.from to) g.from (up_to_on (states_of xs) (states_of ys) ((state_of f).turns + 1) grows es g.from up) refl is_edge
+  pub entered_up_to : AreUpTo (states_of xs) es n → AreUpTo (states_of ys) (es ++ edge n to ∷ []) n
+  entered_up_to up = up_to_more (states_of ys) es (edge n to) n (up_to_on (states_of xs) (states_of ys) (s.turns + 1) grows es n up) refl is_edge
 
-  pub entered_tried : IsTried (states_of ys) (es ++ edge g.from to ∷ []) g.from g.cpu
-  entered_tried d = inr (subst (λ (s : KernelState). IsLed (states_of ys) (es ++ edge g.from to ∷ []) g.from (after s g.cpu)) (sym (here d)) (record {
+  pub entered_tried : IsTried (states_of ys) (es ++ edge n to ∷ []) n cpu
+  entered_tried d = inr (subst (λ (x : KernelState). IsLed (states_of ys) (es ++ edge n to ∷ []) n (after x cpu)) (sym (its d)) (record {
     to = to;
-    there = Contains-push es (edge g.from to);
-    is = subst (λ (t : KernelState). IsAt (states_of ys) to t) succeeds.state at;
+    there = Contains-push es (edge n to);
+    is = subst (λ (x : KernelState). IsAt (states_of ys) to x) next.state at;
   }))
 
 -- turns of the processors so far, and of one more
@@ -171,9 +164,7 @@ pub all_tried_on : (xs ys : List KernelState) (turns : ℕ) (es fs : List Edge) 
     AreTried cpus ys fs n
 all_tried_on xs ys turns es fs n cpus grows extends less tried cpu few = tried_on xs ys turns grows es fs n cpu extends less (tried cpu few)
 
-pub tried_by : (xs ys : List Found) (es fs : List Edge) (n cpu : ℕ) → n < length xs → ((d : KernelState) → IsVisited (states_of xs) (states_of ys) (state_at xs n d) cpu) →
-    Extends es fs → AreTried cpu (states_of xs) es n → IsTried (states_of ys) fs n cpu → AreTried (cpu + 1) (states_of ys) fs n
-tried_by [] ys es fs n cpu less visited extends tried new = absurd (omega (arith, less))
-tried_by (x ∷ xs) ys es fs n cpu less visited extends tried new =
-    tried_more (states_of (x ∷ xs)) (states_of ys) ((state_at (x ∷ xs) n (state_of x)).turns + 1) es fs n cpu (visited (state_of x)).grows extends
-    (let long = length-map (x ∷ xs) state_of in omega (arith, less, long)) tried new
+pub tried_by : (xs ys : List Found) (es fs : List Edge) (n cpu : ℕ) (s : KernelState) → n < length xs → IsVisited (states_of xs) (states_of ys) s cpu → Extends es fs →
+    AreTried cpu (states_of xs) es n → IsTried (states_of ys) fs n cpu → AreTried (cpu + 1) (states_of ys) fs n
+tried_by xs ys es fs n cpu s less visited extends tried new =
+    tried_more (states_of xs) (states_of ys) (s.turns + 1) es fs n cpu visited.grows extends (let long = length-map xs state_of in omega (arith, less, long)) tried new

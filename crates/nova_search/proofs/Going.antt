@@ -1,38 +1,28 @@
--- A search on its way: how far it has come, and by which turns.
+-- A search on its way, and its end.
 use Rattle.std.proofs.Common.{◌≡◌, ◌⊎◌, ℕ, ◌+◌, ◌<◌, ◌≤◌, List, [], ◌∷◌, length, refl, ap, sym, subst, ◌∙◌, arith, inl, inr}
-use Rattle.std.specs.Prelude.{Bool, true, false, Contains, None, nat_le, nat_lt, slice_index_or}
+use Rattle.std.specs.Prelude.{Bool, true, false, Contains, Option, Some, None, nat_le, nat_lt, slice_index_or}
 use Rattle.std.specs.Bool.{OnTrue}
 use Rattle.std.proofs.lemmas.List.{length-map}
 use Rattle.nova_model.specs.Choice.{is_quiet}
 use Rattle.nova_model.specs.State.{KernelState}
 use Rattle.nova_model.specs.Turn.{turn}
 use Rattle.nova_search.specs.declared.edges.Edge.{Edge}
+use Rattle.nova_search.specs.declared.exploring.Course.{Course}
 use Rattle.nova_search.specs.declared.found.Found.{Found}
-use Rattle.nova_search.specs.Edges.{AreAhead, AreEdges, AreTried, AreUpTo, Extends, IsEdge}
+use Rattle.nova_search.specs.Edges.{AreAhead, AreTried, AreUpTo, Extends, IsEdge}
+use Rattle.nova_search.specs.Going.{IsEnded, IsGoing, IsSeen}
 use Rattle.nova_search.specs.Reductions.{IsStill}
-use Rattle.nova_search.specs.Searches.{AreAll, AreAllWithin, AreByTurns, AreLinked, AreNearest, AreVisited, IsFirstAt, IsUnderWay, state_at, state_of, states_of}
+use Rattle.nova_search.specs.Searches.{AreLinked, AreVisited, IsFirst, IsFirstAt, state_at, state_of, states_of}
 use Rattle.nova_search.proofs.Closed.{all_led, all_within}
 use Rattle.nova_search.proofs.Drawn.{all_tried_on}
-use Rattle.nova_search.proofs.Growth.{left_here, place, state_here, states_many, still_at, underway_first, underway_here, visited_as}
+use Rattle.nova_search.proofs.Growth.{cpus_here, left_here, place, states_many, still_at, underway_first, underway_here}
 use Rattle.nova_search.proofs.Nearest.{by_turns_first, by_turns_left, by_turns_on, nearest}
 use Rattle.nova_search.proofs.Reducing.{idle_still}
 
-pub record IsGoing (test : KernelState → Bool) (k : KernelState) (limit : ℕ) (found : List Found) (edges : List Edge) (place : ℕ) (is_whole : Bool) (cpus : ℕ) : Type 0 where
-  pub way : IsUnderWay k limit (states_of found) place is_whole
-  pub by_turns : AreByTurns limit (states_of found) place
-  pub processors : cpus ≡ k.cpus
-  pub first : (d : KernelState) → state_at found 0 d ≡ k
-  pub linked : AreLinked found
-  pub none : (i : ℕ) (d : KernelState) → i < place → test (state_at found i d) ≡ false
-  pub are : AreEdges (states_of found) edges
-  pub below : (i : ℕ) (d : Edge) → i < length edges → (slice_index_or edges i d).from < place
-  pub tried : (i : ℕ) (d : KernelState) → i < place → (state_at found i d).turns < limit → AreTried cpus (states_of found) edges i
-
-pub going_first : (test : KernelState → Bool) (k : KernelState) (limit : ℕ) (found : List Found) (edges : List Edge) (cpus : ℕ) → states_of found ≡ k ∷ [] → edges ≡ [] → cpus ≡ k.cpus → IsGoing test k limit found edges 0 true cpus
-going_first test k limit found edges cpus only none same = record {
+pub going_first : (test : KernelState → Bool) (k : KernelState) (limit : ℕ) (found : List Found) (edges : List Edge) → states_of found ≡ k ∷ [] → edges ≡ [] → IsGoing test k limit found edges 0 true
+going_first test k limit found edges only none = record {
   way = underway_first k limit (states_of found) only;
   by_turns = by_turns_first k limit (states_of found) only;
-  processors = same;
   first = λ d. ap (λ (l : List KernelState). slice_index_or l 0 d) only;
   linked = record { each = λ i d first less. absurd (omega (arith, one, first, less)) };
   none = λ i d less. absurd (omega (arith, less));
@@ -47,93 +37,102 @@ going_first test k limit found edges cpus only none same = record {
     one : length found ≡ 1
     one = sym (length-map found state_of) ∙ ap length only
 
-pub going_on : (test : KernelState → Bool) (k : KernelState) (limit : ℕ) (xs ys : List Found) (es fs : List Edge) (i : ℕ) (w : Bool) (cpus : ℕ) → IsGoing test k limit xs es i w cpus → i < length xs →
-    ((d : KernelState) → test (state_at xs i d) ≡ false) → ((d : KernelState) → (state_at xs i d).turns < limit) → ((d : KernelState) → AreVisited (states_of xs) (states_of ys) (state_at xs i d) cpus) → (AreLinked xs → AreLinked ys) → Extends es fs → (AreUpTo (states_of xs) es i → AreUpTo (states_of ys) fs i) → AreTried cpus (states_of ys) fs i →
-    IsGoing test k limit ys fs (i + 1) w cpus
-going_on test k limit xs ys es fs i w cpus going less not few visited linked extends edges tried = record {
-  way = underway_here k limit xs ys i w going.way less (visited_as xs ys i cpus k.cpus going.processors visited);
-  by_turns = by_turns_on limit (states_of xs) (states_of ys) i going.by_turns (let long = length-map xs state_of in omega (arith, less, long)) (λ d. (visited d).grows) few;
-  processors = going.processors;
-  first = λ d. still_at (states_of xs) (states_of ys) 0 d (visited d).grows (let long = length-map xs state_of in omega (arith, less, long)) ∙ going.first d;
-  linked = linked going.linked;
-  none = λ j d is. by_place j d (place j i is);
-  are = up_to.are;
-  below = λ j d is. let most = up_to.most j d is in omega (arith, most);
-  tried = λ j d is short. tried_at j d (place j i is) short;
-}
-  where
-    up_to : AreUpTo (states_of ys) fs i
-    up_to = edges (record { are = going.are; most = λ j d is. let below = going.below j d is in omega (arith, below) })
+-- the state at a place is expanded
+module _ (test : KernelState → Bool) (k : KernelState) (limit : ℕ) (xs ys : List Found) (es fs : List Edge) (i : ℕ) (w : Bool) (s : KernelState) (going : IsGoing test k limit xs es i w)
+    (less : i < length xs) (here : (d : KernelState) → state_at xs i d ≡ s) (not : test s ≡ false) (few : s.turns < limit)
+    (visited : AreVisited (states_of xs) (states_of ys) s s.cpus) (linked : AreLinked xs → AreLinked ys) (extends : Extends es fs)
+    (edges : AreUpTo (states_of xs) es i → AreUpTo (states_of ys) fs i) (tried : AreTried s.cpus (states_of ys) fs i) where
+  cpus : s.cpus ≡ k.cpus
+  cpus = cpus_here k limit xs i w s going.way less here
 
-    same : (j : ℕ) (d : KernelState) → j < length xs → state_at ys j d ≡ state_at xs j d
-    same j d is = still_at (states_of xs) (states_of ys) j d (visited d).grows (let long = length-map xs state_of in omega (arith, is, long))
+  there : i < length (states_of xs)
+  there = let long = length-map xs state_of in omega (arith, less, long)
 
-    tried_at : (j : ℕ) (d : KernelState) → (j < i) ⊎ (j ≡ i) → (state_at ys j d).turns < limit → AreTried cpus (states_of ys) fs j
-    tried_at j d (inl old) short =
-        all_tried_on (states_of xs) (states_of ys) ((state_at xs i d).turns + 1) es fs j cpus (visited d).grows extends
-        (let long = length-map xs state_of in omega (arith, old, less, long))
-        (going.tried j d old (subst (λ (s : KernelState). s.turns < limit) (same j d (omega (arith, old, less))) short))
-    tried_at j d (inr last) short = subst (λ (n : ℕ). AreTried cpus (states_of ys) fs n) (sym last) tried
+  visited_at : (d : KernelState) → AreVisited (states_of xs) (states_of ys) (state_at xs i d) k.cpus
+  visited_at d =
+      subst (λ (x : KernelState). AreVisited (states_of xs) (states_of ys) x k.cpus) (sym (here d))
+      (subst (λ (n : ℕ). AreVisited (states_of xs) (states_of ys) s n) cpus visited)
 
-    by_place : (j : ℕ) (d : KernelState) → (j < i) ⊎ (j ≡ i) → test (state_at ys j d) ≡ false
-    by_place j d (inl old) = ap test (same j d (omega (arith, old, less))) ∙ going.none j d old
-    by_place j d (inr last) = subst (λ (n : ℕ). test (state_at ys n d) ≡ false) (sym last) (ap test (same i d less) ∙ not d)
+  few_at : (d : KernelState) → (state_at xs i d).turns < limit
+  few_at d = subst (λ (x : KernelState). x.turns < limit) (sym (here d)) few
 
-pub none_so_far : (test : KernelState → Bool) (xs : List Found) (i : ℕ) → ((j : ℕ) (d : KernelState) → j < i → test (state_at xs j d) ≡ false) →
-    ((d : KernelState) → test (state_at xs i d) ≡ false) → (j : ℕ) (d : KernelState) → j < i + 1 → test (state_at xs j d) ≡ false
+  up_to : AreUpTo (states_of ys) fs i
+  up_to = edges (record { are = going.are; most = λ j d is. let below = going.below j d is in omega (arith, below) })
+
+  same : (j : ℕ) (d : KernelState) → j < length xs → state_at ys j d ≡ state_at xs j d
+  same j d is = still_at (states_of xs) (states_of ys) j d visited.grows (let long = length-map xs state_of in omega (arith, is, long))
+
+  tried_at : (j : ℕ) (d : KernelState) → (j < i) ⊎ (j ≡ i) → (state_at ys j d).turns < limit → AreTried k.cpus (states_of ys) fs j
+  tried_at j d (inl old) short =
+      all_tried_on (states_of xs) (states_of ys) (s.turns + 1) es fs j k.cpus visited.grows extends (omega (arith, old, there))
+      (going.tried j d old (subst (λ (x : KernelState). x.turns < limit) (same j d (omega (arith, old, less))) short))
+  tried_at j d (inr last) short = subst (λ (n : ℕ). AreTried k.cpus (states_of ys) fs n) (sym last) (subst (λ (n : ℕ). AreTried n (states_of ys) fs i) cpus tried)
+
+  none_at : (j : ℕ) (d : KernelState) → (j < i) ⊎ (j ≡ i) → test (state_at ys j d) ≡ false
+  none_at j d (inl old) = ap test (same j d (omega (arith, old, less))) ∙ going.none j d old
+  none_at j d (inr last) = subst (λ (n : ℕ). test (state_at ys n d) ≡ false) (sym last) (ap test (same i d less ∙ here d) ∙ not)
+
+  pub going_on : IsGoing test k limit ys fs (i + 1) w
+  going_on = record {
+    way = underway_here k limit xs ys i w going.way less visited_at;
+    by_turns = by_turns_on limit (states_of xs) (states_of ys) i going.by_turns there (λ d. (visited_at d).grows) few_at;
+    first = λ d. still_at (states_of xs) (states_of ys) 0 d visited.grows (omega (arith, there)) ∙ going.first d;
+    linked = linked going.linked;
+    none = λ j d is. none_at j d (place j i is);
+    are = up_to.are;
+    below = λ j d is. let most = up_to.most j d is in omega (arith, most);
+    tried = λ j d is short. tried_at j d (place j i is) short;
+  }
+
+pub none_so_far : (test : KernelState → Bool) (xs : List KernelState) (i : ℕ) → ((j : ℕ) (d : KernelState) → j < i → test (slice_index_or xs j d) ≡ false) →
+    ((d : KernelState) → test (slice_index_or xs i d) ≡ false) → (j : ℕ) (d : KernelState) → j < i + 1 → test (slice_index_or xs j d) ≡ false
 none_so_far test xs i none not j d less = by_place (place j i less)
   where
-    by_place : (j < i) ⊎ (j ≡ i) → test (state_at xs j d) ≡ false
+    by_place : (j < i) ⊎ (j ≡ i) → test (slice_index_or xs j d) ≡ false
     by_place (inl old) = none j d old
-    by_place (inr last) = subst (λ (n : ℕ). test (state_at xs n d) ≡ false) (sym last) (not d)
+    by_place (inr last) = subst (λ (n : ℕ). test (slice_index_or xs n d) ≡ false) (sym last) (not d)
 
-pub going_left : (test : KernelState → Bool) (k : KernelState) (limit : ℕ) (xs : List Found) (es : List Edge) (i : ℕ) (f : Found) (w r : Bool) (cpus : ℕ) → IsGoing test k limit xs es i w cpus → i < length xs →
-    ((d : KernelState) → test (state_at xs i d) ≡ false) → ((d : KernelState) → limit ≤ (state_at xs i d).turns) → f ≡ slice_index_or xs i f → OnTrue r ((w ≡ true) × IsStill (state_of f).cpus (state_of f)) →
-    IsGoing test k limit xs es (i + 1) r cpus
-going_left test k limit xs es i f w r cpus going less not many is stays = record {
-  way = left_here k limit xs i f w r going.way less many is stays;
+-- the state at a place is left as it is
+pub going_left : (test : KernelState → Bool) (k : KernelState) (limit : ℕ) (xs : List Found) (es : List Edge) (i : ℕ) (s : KernelState) (w r : Bool) → IsGoing test k limit xs es i w →
+    i < length xs → ((d : KernelState) → state_at xs i d ≡ s) → test s ≡ false → limit ≤ s.turns → OnTrue r ((w ≡ true) × IsStill s.cpus s) → IsGoing test k limit xs es (i + 1) r
+going_left test k limit xs es i s w r going less here not many stays = record {
+  way = left_here k limit xs i s w r going.way less many here stays;
   by_turns = by_turns_left limit (states_of xs) i going.by_turns;
-  processors = going.processors;
   first = going.first;
   linked = going.linked;
-  none = none_so_far test xs i going.none not;
+  none = none_so_far test (states_of xs) i going.none (λ d. ap test (here d) ∙ not);
   are = going.are;
   below = λ j d is. let below = going.below j d is in omega (arith, below);
   tried = λ j d is short. tried_at j d (place j i is) short;
 }
   where
-    tried_at : (j : ℕ) (d : KernelState) → (j < i) ⊎ (j ≡ i) → (state_at xs j d).turns < limit → AreTried cpus (states_of xs) es j
+    tried_at : (j : ℕ) (d : KernelState) → (j < i) ⊎ (j ≡ i) → (state_at xs j d).turns < limit → AreTried k.cpus (states_of xs) es j
     tried_at j d (inl old) short = going.tried j d old short
     tried_at j d (inr last) short =
         let few = subst (λ (n : ℕ). (state_at xs n d).turns < limit) last short in
-        let most = many d in
+        let most = subst (λ (x : KernelState). limit ≤ x.turns) (sym (here d)) many in
         absurd (omega (arith, few, most))
-
--- of a state that is tested, as code reads it
-pub test_here : (test : KernelState → Bool) (xs : List Found) (i : ℕ) (f : Found) (r : Bool) → i < length xs → f ≡ slice_index_or xs i f → r ≡ test (state_of f) → (t : Bool) → r ≡ t →
-    (d : KernelState) → test (state_at xs i d) ≡ t
-test_here test xs i f r less is same t so d = ap test (state_here xs i f d less is) ∙ sym same ∙ so
 
 pub first_so : (test : KernelState → Bool) (xs : List Found) (i : ℕ) → i < length xs → ((d : KernelState) → test (state_at xs i d) ≡ true) →
     ((j : ℕ) (d : KernelState) → j < i → test (state_at xs j d) ≡ false) → IsFirstAt test (states_of xs) i
 first_so test xs i less passes none = record { there = (let long = length-map xs state_of in omega (arith, less, long)); passes = passes; none = none }
 
-pub none_so : (test : KernelState → Bool) (xs : List Found) (i : ℕ) → length xs ≤ i → ((j : ℕ) (d : KernelState) → j < i → test (state_at xs j d) ≡ false) →
-    (s : KernelState) → Contains (states_of xs) s → test s ≡ false
-none_so test xs i most none s there =
-    ap test (sym there.2) ∙ none there.0 s (let is = there.1 in let long = length-map xs state_of in omega (arith, is, long, most))
+pub none_so : (test : KernelState → Bool) (xs : List KernelState) (i : ℕ) → length xs ≤ i → ((j : ℕ) (d : KernelState) → j < i → test (slice_index_or xs j d) ≡ false) →
+    (s : KernelState) → Contains xs s → test s ≡ false
+none_so test xs i most none s there = ap test (sym there.2) ∙ none there.0 s (let is = there.1 in omega (arith, is, most))
 
--- at any place
-pub going_nearest : (test : KernelState → Bool) (k : KernelState) (limit : ℕ) (xs : List Found) (es : List Edge) (i : ℕ) (w : Bool) (cpus : ℕ) → IsGoing test k limit xs es i w cpus → AreNearest k (states_of xs)
-going_nearest test k limit xs es i w cpus going = nearest k limit (states_of xs) i w going.way going.by_turns going.first
+-- what came of going through the state at a place
+pub seen_on : (test : KernelState → Bool) (k : KernelState) (limit : ℕ) (xs : List Found) (es : List Edge) (i : ℕ) (w stays : Bool) (o : Option Bool) → IsSeen test k limit xs es i w o →
+    o ≡ Some stays → IsGoing test k limit xs es (i + 1) stays
+seen_on test k limit xs es i w stays o seen is = subst (λ (x : Option Bool). IsSeen test k limit xs es i w x) is seen
 
-pub going_few : (test : KernelState → Bool) (k : KernelState) (limit : ℕ) (xs : List Found) (es : List Edge) (i : ℕ) (w : Bool) (cpus : ℕ) → IsGoing test k limit xs es i w cpus →
-    (place : ℕ) (d : KernelState) → 0 < place → place < length xs → (state_at xs place d).turns ≤ limit
-going_few test k limit xs es i w cpus going place d first less = going.by_turns.few place d first (let long = length-map xs state_of in omega (arith, less, long))
+pub seen_goal : (test : KernelState → Bool) (k : KernelState) (limit : ℕ) (xs : List Found) (es : List Edge) (i : ℕ) (w : Bool) (o : Option Bool) → IsSeen test k limit xs es i w o →
+    o ≡ None → IsGoing test k limit xs es i w × ((d : KernelState) → test (state_at xs i d) ≡ true) × (i < length xs)
+seen_goal test k limit xs es i w o seen is = subst (λ (x : Option Bool). IsSeen test k limit xs es i w x) is seen
 
 -- a turn leads to a later place
-pub going_ahead : (test : KernelState → Bool) (k : KernelState) (limit : ℕ) (xs : List Found) (es : List Edge) (i : ℕ) (w : Bool) (cpus : ℕ) → IsGoing test k limit xs es i w cpus → AreAhead es
-going_ahead test k limit xs es i w cpus going = record { each = λ j d less. by_test (slice_index_or es j d) (going.are.each j d less) (nat_lt (slice_index_or es j d).from (slice_index_or es j d).to) refl }
+going_ahead : (test : KernelState → Bool) (k : KernelState) (limit : ℕ) (xs : List Found) (es : List Edge) (i : ℕ) (w : Bool) → IsGoing test k limit xs es i w → AreAhead es
+going_ahead test k limit xs es i w going = record { each = λ j d less. by_test (slice_index_or es j d) (going.are.each j d less) (nat_lt (slice_index_or es j d).from (slice_index_or es j d).to) refl }
   where
     by_test : (e : Edge) → IsEdge (states_of xs) e → (t : Bool) → nat_lt e.from e.to ≡ t → e.from < e.to
     by_test e is true less = grind (arith, less)
@@ -143,23 +142,30 @@ going_ahead test k limit xs es i w cpus going = record { each = λ j d less. by_
         let one = (is.next k).turns in
         absurd (omega (arith, rising, one))
 
--- at the end, where no more states were found than places were gone through
-pub ends_within : (test : KernelState → Bool) (k : KernelState) (limit : ℕ) (xs : List Found) (es : List Edge) (i : ℕ) (w : Bool) (cpus : ℕ) → IsGoing test k limit xs es i w cpus → length xs ≤ i → AreAllWithin k limit (states_of xs)
-ends_within test k limit xs es i w cpus going most = all_within k limit (states_of xs) i w going.way (states_many xs i most)
+-- A search ends at a place: it is over only where no more states were found than places were gone through.
+module _ (test : KernelState → Bool) (k : KernelState) (limit most : ℕ) (xs : List Found) (es : List Edge) (i : ℕ) (w : Bool) (going : IsGoing test k limit xs es i w) where
+  pub ended_by : (course : Course) → IsFirst test (states_of xs) course.goal → (course.is_over ≡ true → length xs ≤ i) → course.is_whole ≡ w →
+      (course.goal ≡ None → course.is_over ≡ false → most < length xs) → IsEnded test k limit most xs es course
+  ended_by course first over whole more = record {
+    reached = going.way.reached;
+    nearest = nearest k limit (states_of xs) i w going.way going.by_turns going.first;
+    goal = first;
+    within = λ is. all_within k limit (states_of xs) i w going.way (states_many xs i (over is));
+    all = λ is all. all_led k limit (states_of xs) i w going.way (states_many xs i (over is)) (sym whole ∙ all);
+    more = more;
+    first = going.first;
+    linked = going.linked;
+    few = λ place d some less. going.by_turns.few place d some (let long = length-map xs state_of in omega (arith, less, long));
+    are = going.are;
+    ahead = going_ahead test k limit xs es i w going;
+    tried = λ is place d less short. going.tried place d (let many = over is in omega (arith, less, many)) short;
+  }
 
-pub ends_led : (test : KernelState → Bool) (k : KernelState) (limit : ℕ) (xs : List Found) (es : List Edge) (i : ℕ) (w : Bool) (cpus : ℕ) → IsGoing test k limit xs es i w cpus → length xs ≤ i → w ≡ true → AreAll k (states_of xs)
-ends_led test k limit xs es i w cpus going most whole = all_led k limit (states_of xs) i w going.way (states_many xs i most) whole
+pub few_so : (n most : ℕ) → nat_le n most ≡ true → n ≤ most
+few_so n most is = grind (arith, is)
 
-pub ends_tried : (test : KernelState → Bool) (k : KernelState) (limit : ℕ) (xs : List Found) (es : List Edge) (i : ℕ) (w : Bool) (cpus : ℕ) → IsGoing test k limit xs es i w cpus →
-    length xs ≤ i → (place : ℕ) (d : KernelState) → place < length xs → (state_at xs place d).turns < limit → AreTried k.cpus (states_of xs) es place
-ends_tried test k limit xs es i w cpus going most place d less short =
-    subst (λ (n : ℕ). AreTried n (states_of xs) es place) going.processors (going.tried place d (omega (arith, less, most)) short)
-
-pub few_found : (n most place : ℕ) → nat_le n most ≡ true → most ≤ place → n ≤ place
-few_found n most place few done = grind (arith, few, done)
-
-pub more_found : (n most : ℕ) → nat_le n most ≡ false → most < n
-more_found n most many = grind (arith, many)
+pub many_so : (n most : ℕ) → nat_le n most ≡ false → most < n
+many_so n most is = grind (arith, is)
 
 -- a search stays whole at a state in which the kernel is quiet
 pub whole_if : (w r : Bool) (s : KernelState) → w ≡ true → r ≡ is_quiet s → (is_quiet s ≡ true → (cpu : ℕ) → cpu < s.cpus → turn s cpu ≡ None) →

@@ -9,7 +9,6 @@ use Rattle.nova_model.specs.State.{KernelState}
 use Rattle.nova_model.specs.Runs.{after}
 use Rattle.nova_compare.specs.Steps.{IsNext, IsSuccessor}
 use Rattle.nova_search.specs.declared.found.Found.{Found}
-use Rattle.nova_search.specs.Edges.{IsAt}
 use Rattle.nova_search.specs.Reductions.{IsStill}
 use Rattle.nova_search.specs.Searches.{AreVisited, Grows, IsExpanded, IsMore, IsReached, IsUnderWay, IsVisited, Keeps, state_at, state_of, states_of}
 use Rattle.nova_search.proofs.Ways.{begun, goes_on}
@@ -74,26 +73,35 @@ idle_visited xs s cpu there idle = record {
 states_more : (old : List Found) (f : Found) → states_of (old ++ f ∷ []) ≡ states_of old ++ state_of f ∷ []
 states_more old f = map-append state_of old (f ∷ [])
 
-pub grows_by : (old new : List Found) (f : Found) (turns : ℕ) → IsMore old f new → (state_of f).turns ≡ turns → Grows (states_of old) (states_of new) turns
-grows_by old new f turns (inl same) is = subst (λ (l : List Found). Grows (states_of old) (states_of l) turns) (sym same) (same_grows (states_of old) turns)
-grows_by old new f turns (inr more) is = record { more = state_of f ∷ []; whole = ap states_of more ∙ states_more old f; taken = (is, tt) }
+pub grows_by : (old new : List Found) (place cpu : ℕ) (t : KernelState) (turns : ℕ) → IsMore old place cpu t new → t.turns ≡ turns → Grows (states_of old) (states_of new) turns
+grows_by old new place cpu t turns (inl same) is = subst (λ (l : List Found). Grows (states_of old) (states_of l) turns) (sym same) (same_grows (states_of old) turns)
+grows_by old new place cpu t turns (inr (f, by, more)) is =
+    record { more = state_of f ∷ []; whole = ap states_of more ∙ states_more old f; taken = (ap (λ (s : KernelState). s.turns) by.state ∙ is, tt) }
 
-keeps_by : (old new : List Found) (f : Found) (s : KernelState) (cpu : ℕ) → IsMore old f new → cpu < s.cpus → IsSuccessor s cpu (state_of f) →
-    Contains (states_of old) s → Keeps (states_of old) (states_of new)
-keeps_by old new f s cpu (inl same) is next there = subst (λ (l : List Found). Keeps (states_of old) (states_of l)) (sym same) (same_keeps (states_of old))
-keeps_by old new f s cpu (inr more) is next there = record {
+keeps_by : (old new : List Found) (place cpu : ℕ) (s t : KernelState) → IsMore old place cpu t new → cpu < s.cpus → IsSuccessor s cpu t → Contains (states_of old) s →
+    Keeps (states_of old) (states_of new)
+keeps_by old new place cpu s t (inl same) is next there = subst (λ (l : List Found). Keeps (states_of old) (states_of l)) (sym same) (same_keeps (states_of old))
+keeps_by old new place cpu s t (inr (f, by, more)) is next there = record {
   reached = λ k each. subst (λ (l : List KernelState). All (IsReached k) l) (sym (ap states_of more ∙ states_more old f))
-      (All-push (IsReached k) (states_of old) (state_of f) each (goes_on k s (state_of f) cpu (All-contains (IsReached k) (states_of old) s each there) is next));
+      (All-push (IsReached k) (states_of old) (state_of f) each
+      (subst (λ (x : KernelState). IsReached k x) (sym by.state) (goes_on k s t cpu (All-contains (IsReached k) (states_of old) s each there) is next)));
 }
 
-pub next_visited : (old new : List Found) (f : Found) (s : KernelState) (cpu : ℕ) → IsMore old f new → Contains (states_of new) (state_of f) → cpu < s.cpus →
-    IsSuccessor s cpu (state_of f) → Contains (states_of old) s → IsVisited (states_of old) (states_of new) s cpu
-next_visited old new f s cpu more there is next here = record {
-  grows = grows_by old new f (s.turns + 1) more next.turns;
-  keeps = keeps_by old new f s cpu more is next here;
+pub next_visited : (old new : List Found) (place cpu : ℕ) (s t : KernelState) → IsMore old place cpu t new → Contains (states_of new) t → cpu < s.cpus → IsSuccessor s cpu t →
+    Contains (states_of old) s → IsVisited (states_of old) (states_of new) s cpu
+next_visited old new place cpu s t more there is next here = record {
+  grows = grows_by old new place cpu t (s.turns + 1) more next.turns;
+  keeps = keeps_by old new place cpu s t more is next here;
   there = subst (λ (x : KernelState). Contains (states_of new) x) next.state there;
   turns = subst (λ (x : KernelState). x.turns ≤ s.turns + 1) next.state (let is = next.turns in omega (arith, is));
 }
+
+-- what came of a turn
+pub idles_by : (s : KernelState) (cpu : ℕ) (next : Option KernelState) → IsNext s cpu next → next ≡ None → after s cpu ≡ s
+idles_by s cpu next came none = subst (λ (o : Option KernelState). IsNext s cpu o) none came
+
+pub succeeds_by : (s t : KernelState) (cpu : ℕ) (next : Option KernelState) → IsNext s cpu next → next ≡ Some t → IsSuccessor s cpu t
+succeeds_by s t cpu next came some = subst (λ (o : Option KernelState). IsNext s cpu o) some came
 
 -- turns of no processor, and of one more
 pub none_visited : (xs : List KernelState) (s : KernelState) → AreVisited xs xs s 0
@@ -206,91 +214,44 @@ at_place xs i d e less = get_or-map state_of xs i e d less
 pub state_here : (xs : List Found) (i : ℕ) (f : Found) (d : KernelState) → i < length xs → f ≡ slice_index_or xs i f → state_at xs i d ≡ state_of f
 state_here xs i f d less is = at_place xs i d f less ∙ ap state_of (sym is)
 
--- a state that is seen to be that at a place
-pub found_if : (r : Bool) (xs : List Found) (i : ℕ) (f : Found) (s : KernelState) → i < length xs → f ≡ slice_index_or xs i f → OnTrue r (state_of f ≡ s) → r ≡ true →
-    IsAt (states_of xs) i s
-found_if true xs i f s less is same holds = record { there = (let long = length-map xs state_of in omega (arith, less, long)); is = λ d. state_here xs i f d less is ∙ same }
-found_if false xs i f s less is same holds = absurd (cc)
+-- the state at a place, as code has it
+pub holds_here : (xs : List Found) (i : ℕ) (s : KernelState) → i < length xs → ((d : KernelState) → state_at xs i d ≡ s) → Contains (states_of xs) s
+holds_here xs i s less here = (i, (let long = length-map xs state_of in omega (arith, less, long)), here s)
 
 contains_here : (xs : List Found) (i : ℕ) (d : KernelState) → i < length xs → Contains (states_of xs) (state_at xs i d)
 contains_here xs i d less = Contains-get_or (states_of xs) i d (let long = length-map xs state_of in omega (arith, less, long))
 
-pub idle_here : (xs : List Found) (i cpu : ℕ) (f : Found) (next : Option KernelState) → i < length xs → f ≡ slice_index_or xs i f → IsNext (state_of f) cpu next →
-    next ≡ None → (d : KernelState) → IsVisited (states_of xs) (states_of xs) (state_at xs i d) cpu
-idle_here xs i cpu f next less is came none d =
-    let same = state_here xs i f d less is in
-    let idle : after (state_of f) cpu ≡ state_of f = subst (λ (o : Option KernelState). IsNext (state_of f) cpu o) none came in
-    idle_visited (states_of xs) (state_at xs i d) cpu (contains_here xs i d less) (ap (λ (s : KernelState). after s cpu) same ∙ idle ∙ sym same)
+pub stays_at : {turns : ℕ} (xs ys : List Found) (i : ℕ) (s : KernelState) → i < length xs → Grows (states_of xs) (states_of ys) turns → ((d : KernelState) → state_at xs i d ≡ s) →
+    (d : KernelState) → state_at ys i d ≡ s
+stays_at xs ys i s less grows here d = still_at (states_of xs) (states_of ys) i d grows (let long = length-map xs state_of in omega (arith, less, long)) ∙ here d
 
-pub next_here : (xs ys : List Found) (i cpu : ℕ) (f g : Found) (next : Option KernelState) → i < length xs → f ≡ slice_index_or xs i f → IsNext (state_of f) cpu next →
-    next ≡ Some g.vertex → cpu < (state_of f).cpus → IsMore xs g ys → Contains (states_of ys) (state_of g) → (d : KernelState) →
-    IsVisited (states_of xs) (states_of ys) (state_at xs i d) cpu
-next_here xs ys i cpu f g next less is came some there more found d =
-    let same = state_here xs i f d less is in
-    let succeeds : IsSuccessor (state_of f) cpu (state_of g) = subst (λ (o : Option KernelState). IsNext (state_of f) cpu o) some came in
-    subst (λ (s : KernelState). IsVisited (states_of xs) (states_of ys) s cpu) (sym same)
-    (next_visited xs ys g (state_of f) cpu more found there succeeds (subst (λ (s : KernelState). Contains (states_of xs) s) same (contains_here xs i d less)))
-
--- the turns so far of the processors, at a place
-pub still_here : (xs ys : List Found) (i : ℕ) (d : KernelState) (n : ℕ) → i < length xs → ((d : KernelState) → AreVisited (states_of xs) (states_of ys) (state_at xs i d) n) →
-    state_at ys i d ≡ state_at xs i d
-still_here xs ys i d n less visited = still_at (states_of xs) (states_of ys) i d (visited d).grows (let long = length-map xs state_of in omega (arith, less, long))
-
-more_by : (xs ys : List Found) (i : ℕ) (d : KernelState) (n : ℕ) → i < length xs → ((d : KernelState) → AreVisited (states_of xs) (states_of ys) (state_at xs i d) n) →
-    i < length ys
-more_by xs ys i d n less visited =
-    let grows = (visited d).grows in
+pub stays_there : {turns : ℕ} (xs ys : List Found) (i : ℕ) → i < length xs → Grows (states_of xs) (states_of ys) turns → i < length ys
+stays_there xs ys i less grows =
     let long = length-map xs state_of in
     let other = length-map ys state_of in
     let whole = ap length grows.whole ∙ length-append (states_of xs) grows.more in
     omega (arith, less, long, other, whole)
 
-pub more_here : (xs ys : List Found) (i n : ℕ) → i < length xs → ((d : KernelState) → AreVisited (states_of xs) (states_of ys) (state_at xs i d) n) → i < length ys
-more_here [] ys i n less visited = absurd (omega (arith, less))
-more_here (x ∷ xs) ys i n less visited = more_by (x ∷ xs) ys i (state_of x) n less visited
-
-pub visited_on_here : (xs ys zs : List Found) (i n : ℕ) → i < length xs → ((d : KernelState) → AreVisited (states_of xs) (states_of ys) (state_at xs i d) n) →
-    ((d : KernelState) → IsVisited (states_of ys) (states_of zs) (state_at ys i d) n) → (d : KernelState) → AreVisited (states_of xs) (states_of zs) (state_at xs i d) (n + 1)
-visited_on_here xs ys zs i n less visited visit d =
-    visited_on (states_of xs) (states_of ys) (states_of zs) (state_at xs i d) n (visited d)
-    (subst (λ (s : KernelState). IsVisited (states_of ys) (states_of zs) s n) (still_here xs ys i d n less visited) (visit d))
-
 -- the search at a place, as code reads it
 pub states_many : (xs : List Found) (i : ℕ) → length xs ≤ i → length (states_of xs) ≤ i
 states_many xs i most = let long = length-map xs state_of in omega (arith, most, long)
 
-pub cpus_here : (k : KernelState) (limit : ℕ) (xs : List Found) (i : ℕ) (w : Bool) → IsUnderWay k limit (states_of xs) i w → i < length xs →
-    (d : KernelState) → (state_at xs i d).cpus ≡ k.cpus
-cpus_here k limit xs i w way less d = (All-contains (IsReached k) (states_of xs) (state_at xs i d) way.reached (contains_here xs i d less)).cpus
-
-pub few_here : (xs : List Found) (i most : ℕ) (f : Found) → i < length xs → f ≡ slice_index_or xs i f → (state_of f).turns < most → (d : KernelState) → (state_at xs i d).turns < most
-few_here xs i most f less is few d = subst (λ (s : KernelState). s.turns < most) (sym (state_here xs i f d less is)) few
-
-pub many_here : (xs : List Found) (i most : ℕ) (f : Found) → i < length xs → f ≡ slice_index_or xs i f → most ≤ (state_of f).turns → (d : KernelState) → most ≤ (state_at xs i d).turns
-many_here xs i most f less is many d = subst (λ (s : KernelState). most ≤ s.turns) (sym (state_here xs i f d less is)) many
+pub cpus_here : (k : KernelState) (limit : ℕ) (xs : List Found) (i : ℕ) (w : Bool) (s : KernelState) → IsUnderWay k limit (states_of xs) i w → i < length xs →
+    ((d : KernelState) → state_at xs i d ≡ s) → s.cpus ≡ k.cpus
+cpus_here k limit xs i w s way less here = (All-contains (IsReached k) (states_of xs) s way.reached (holds_here xs i s less here)).cpus
 
 pub underway_here : (k : KernelState) (limit : ℕ) (xs ys : List Found) (i : ℕ) (w : Bool) → IsUnderWay k limit (states_of xs) i w → i < length xs →
     ((d : KernelState) → AreVisited (states_of xs) (states_of ys) (state_at xs i d) k.cpus) → IsUnderWay k limit (states_of ys) (i + 1) w
 underway_here k limit xs ys i w way less visited =
     underway_on k limit (states_of xs) (states_of ys) i w way (let long = length-map xs state_of in omega (arith, less, long)) visited
 
-pub left_here : (k : KernelState) (limit : ℕ) (xs : List Found) (i : ℕ) (f : Found) (w r : Bool) → IsUnderWay k limit (states_of xs) i w → i < length xs →
-    ((d : KernelState) → limit ≤ (state_at xs i d).turns) → f ≡ slice_index_or xs i f → OnTrue r ((w ≡ true) × IsStill (state_of f).cpus (state_of f)) →
-    IsUnderWay k limit (states_of xs) (i + 1) r
-left_here k limit xs i f w r way less many is stays =
-    underway_left k limit (states_of xs) i w r way (let long = length-map xs state_of in omega (arith, less, long)) many (by_test r stays)
+pub left_here : (k : KernelState) (limit : ℕ) (xs : List Found) (i : ℕ) (s : KernelState) (w r : Bool) → IsUnderWay k limit (states_of xs) i w → i < length xs →
+    limit ≤ s.turns → ((d : KernelState) → state_at xs i d ≡ s) → OnTrue r ((w ≡ true) × IsStill s.cpus s) → IsUnderWay k limit (states_of xs) (i + 1) r
+left_here k limit xs i s w r way less many here stays =
+    underway_left k limit (states_of xs) i w r way (let long = length-map xs state_of in omega (arith, less, long))
+    (λ d. subst (λ (x : KernelState). limit ≤ x.turns) (sym (here d)) many) (by_test r stays)
   where
-    here : (d : KernelState) → state_at xs i d ≡ state_of f
-    here d = state_here xs i f d less is
-
-    cpus : (state_of f).cpus ≡ k.cpus
-    cpus = ap (λ (s : KernelState). s.cpus) (sym (here (state_of f))) ∙ cpus_here k limit xs i w way less (state_of f)
-
-    by_test : (t : Bool) → OnTrue t ((w ≡ true) × IsStill (state_of f).cpus (state_of f)) →
-        OnTrue t ((w ≡ true) × ((d : KernelState) → IsStill k.cpus (state_at xs i d)))
-    by_test true stays = (stays.0, λ d. subst (λ (s : KernelState). IsStill k.cpus s) (sym (here d)) (subst (λ (n : ℕ). IsStill n (state_of f)) cpus stays.1))
+    by_test : (t : Bool) → OnTrue t ((w ≡ true) × IsStill s.cpus s) → OnTrue t ((w ≡ true) × ((d : KernelState) → IsStill k.cpus (state_at xs i d)))
+    by_test true stays =
+        (stays.0, λ d. subst (λ (x : KernelState). IsStill k.cpus x) (sym (here d)) (subst (λ (n : ℕ). IsStill n s) (cpus_here k limit xs i w s way less here) stays.1))
     by_test false stays = tt
-
-pub visited_as : (xs ys : List Found) (i n m : ℕ) → n ≡ m → ((d : KernelState) → AreVisited (states_of xs) (states_of ys) (state_at xs i d) n) →
-    (d : KernelState) → AreVisited (states_of xs) (states_of ys) (state_at xs i d) m
-visited_as xs ys i n m same visited d = subst (λ (l : ℕ). AreVisited (states_of xs) (states_of ys) (state_at xs i d) l) same (visited d)

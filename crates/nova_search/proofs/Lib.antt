@@ -2,8 +2,9 @@ pub mod Ways
 pub mod Closed
 pub mod Growth
 pub mod Nearest
+pub mod Open
 pub mod Drawn
 pub mod Reducing
 pub mod Links
 pub mod Going
-pub mod Marked
+pub mod Retaken

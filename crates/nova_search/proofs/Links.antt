@@ -1,10 +1,10 @@
 -- From a state back to the first, by the turns after which states were found.
 use Rattle.std.proofs.Common.{◌≡◌, ◌⊎◌, ℕ, ◌+◌, ◌<◌, ◌≤◌, List, [], ◌∷◌, ◌++◌, length, reverse, refl, ap, sym, subst, ◌∙◌, arith, inl, inr}
-use Rattle.std.specs.Prelude.{Option, Some, slice_index_or}
+use Rattle.std.specs.Prelude.{slice_index_or}
 use Rattle.std.proofs.lemmas.List.{length-map, map-append, reverse-append}
 use Rattle.nova_model.specs.State.{KernelState}
 use Rattle.nova_model.specs.Runs.{IsFreeOfIdle, run}
-use Rattle.nova_compare.specs.Steps.{IsNext, IsSuccessor}
+use Rattle.nova_compare.specs.Steps.{IsSuccessor}
 use Rattle.nova_search.specs.declared.found.Found.{Found}
 use Rattle.nova_search.specs.Searches.{AreLinked, AreProcessors, IsLink, IsMore, IsWay, state_at, state_of, states_of}
 use Rattle.nova_search.proofs.Growth.{any_default, at_front, place, state_here}
@@ -23,6 +23,7 @@ link_stays xs ys i f most link = record {
   before = link.before;
   processor = λ d. subst (λ (s : KernelState). f.cpu < s.cpus) (sym (same d)) (link.processor d);
   next = λ d. subst (λ (s : KernelState). IsSuccessor s f.cpu (state_of f)) (sym (same d)) (link.next d);
+  few = link.few;
 }
   where
     same : (d : KernelState) → state_at (xs ++ ys) f.from d ≡ state_at xs f.from d
@@ -46,22 +47,22 @@ linked_more xs f link linked = record {
         (subst (λ (g : Found). IsLink (xs ++ f ∷ []) (length xs) g) (sym (at_end xs f d)) (link_stays xs (f ∷ []) (length xs) f (omega arith) link))
 
 -- a state that is entered after a turn in the one at a place
-pub linked_here : (xs ys : List Found) (f g : Found) (next : Option KernelState) → g.from < length xs → f ≡ slice_index_or xs g.from f → IsNext (state_of f) g.cpu next →
-    next ≡ Some g.vertex → g.cpu < (state_of f).cpus → IsMore xs g ys → AreLinked xs → AreLinked ys
-linked_here xs ys f g next less is came some there (inl same) linked = subst (λ (l : List Found). AreLinked l) (sym same) linked
-linked_here xs ys f g next less is came some there (inr more) linked = subst (λ (l : List Found). AreLinked l) (sym more) (linked_more xs g link linked)
+pub linked_here : (xs ys : List Found) (place cpu : ℕ) (s t : KernelState) → place < length xs → ((d : KernelState) → state_at xs place d ≡ s) → IsSuccessor s cpu t → cpu < s.cpus →
+    s.turns < 2147483648 → IsMore xs place cpu t ys → AreLinked xs → AreLinked ys
+linked_here xs ys place cpu s t less here next there few (inl same) linked = subst (λ (l : List Found). AreLinked l) (sym same) linked
+linked_here xs ys place cpu s t less here next there few (inr (f, by, more)) linked = subst (λ (l : List Found). AreLinked l) (sym more) (linked_more xs f link linked)
   where
-    here : (d : KernelState) → state_of f ≡ state_at xs g.from d
-    here d = sym (state_here xs g.from f d less is)
+    its : (d : KernelState) → s ≡ state_at xs f.from d
+    its d = sym (ap (λ (n : ℕ). state_at xs n d) by.from ∙ here d)
 
-    succeeds : IsSuccessor (state_of f) g.cpu (state_of g)
-    succeeds = subst (λ (o : Option KernelState). IsNext (state_of f) g.cpu o) some came
-
-    link : IsLink xs (length xs) g
+    link : IsLink xs (length xs) f
     link = record {
-      before = less;
-      processor = λ d. subst (λ (s : KernelState). g.cpu < s.cpus) (here d) there;
-      next = λ d. subst (λ (s : KernelState). IsSuccessor s g.cpu (state_of g)) (here d) succeeds;
+      before = subst (λ (n : ℕ). n < length xs) (sym by.from) less;
+      processor = λ d. subst (λ (n : ℕ). n < (state_at xs f.from d).cpus) (sym by.cpu) (subst (λ (x : KernelState). cpu < x.cpus) (its d) there);
+      next = λ d.
+          subst (λ (n : ℕ). IsSuccessor (state_at xs f.from d) n (state_of f)) (sym by.cpu)
+          (subst (λ (x : KernelState). IsSuccessor x cpu (state_of f)) (its d) (subst (λ (x : KernelState). IsSuccessor s cpu x) (sym by.state) next));
+      few = let turns = next.turns in let same = ap (λ (x : KernelState). x.turns) by.state in omega (arith, turns, same, few);
     }
 
 -- a way from a state to another, with a turn before it

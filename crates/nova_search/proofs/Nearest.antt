@@ -33,7 +33,7 @@ old_at : (xs ys : List KernelState) (turns i : ℕ) (d : KernelState) → Grows 
 old_at xs ys turns i d grows less = ap (λ (s : KernelState). s.turns) (still_at xs ys i d grows less)
 
 -- a place lies among those that were there, or behind them
-side : (i n : ℕ) → (i < n) ⊎ (n ≤ i)
+pub side : (i n : ℕ) → (i < n) ⊎ (n ≤ i)
 side i n = by_test (nat_lt i n) refl
   where
     by_test : (t : Bool) → nat_lt i n ≡ t → (i < n) ⊎ (n ≤ i)

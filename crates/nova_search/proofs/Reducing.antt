@@ -12,7 +12,7 @@ abbrev IsWithout : ℕ → List ℕ → Type 0
 IsWithout p [] = Unit {0}
 IsWithout p (q ∷ order) = (p ≢ q) × IsWithout p order
 
--- turns of others, and then one that is apart from them
+-- turns of others, and then a turn that is apart from them
 record AreSwapped (touch : KernelState → ℕ → Touch) (noted : ℕ → Touch → Bool) (s : KernelState) (p : ℕ) (order : List ℕ) : Type 0 where
   state : run (after s p) order ≡ after (run s order) p
   notes : AreNoted touch noted s order
@@ -148,7 +148,7 @@ covered_last n touch noted lone rank states swaps is s order l without c = recor
     swap : AreSwapped touch noted s l.cpu order
     swap = swapped touch noted lone swaps is.apart s l.cpu order l.alone without c.notes
 
--- one state, where all shorter orders are covered, and this one from states of lesser rank
+-- one state, where all shorter orders are covered, and this state from states of lesser rank
 covered_here : (n : ℕ) (touch : KernelState → ℕ → Touch) (noted lone : ℕ → Touch → Bool) (rank : KernelState → ℕ) (states : List KernelState) → Swaps touch →
     IsReduction n touch noted lone rank states → (most : ℕ) → Covers n touch noted states most →
     (s : KernelState) (q : ℕ) (order : List ℕ) → ((t : KernelState) → Contains states t → rank t < rank s → IsCovered n touch noted states t (q ∷ order)) →

@@ -1,10 +1,8 @@
--- The turns that a search tried, as edges between places of what it found; and from which places they lead to an end of the run.
-use Rattle.std.specs.Prelude.{◌≡◌, ◌⊎◌, ℕ, ◌<◌, ◌≤◌, ◌++◌, Bool, true, false, List, length, slice_index_or, slice_set, Contains, if◌then◌else◌}
-use Rattle.nova_model.specs.Choice.{is_quiet}
+-- The turns that a search tried, as edges between places of what it found.
+use Rattle.std.specs.Prelude.{◌≡◌, ◌⊎◌, ℕ, ◌<◌, ◌≤◌, ◌++◌, List, length, slice_index_or, Contains}
 use Rattle.nova_model.specs.State.{KernelState}
 use Rattle.nova_model.specs.Runs.{after}
 use Rattle.nova_compare.specs.Steps.{IsSuccessor}
-use Rattle.nova_search.specs.Searches.{IsWay}
 use Rattle.nova_search.specs.declared.edges.Edge.{Edge}
 
 -- a state stands at a place
@@ -47,39 +45,9 @@ IsTried states edges place cpu =
 abbrev pub AreTried : ℕ → List KernelState → List Edge → ℕ → Type 0
 AreTried n states edges place = (cpu : ℕ) → cpu < n → IsTried states edges place cpu
 
--- an order without idle turns leads from a state to one of these in which the run has ended
-pub record HasEnd (states : List KernelState) (s : KernelState) : Type 0 where
-  pub end : KernelState
-  pub there : Contains states end
-  pub order : List ℕ
-  pub way : IsWay s end order
-  pub quiet : is_quiet end ≡ true
-
--- whether a place is marked
-abbrev pub is_marked : List Bool → ℕ → Bool
-is_marked marks place = slice_index_or marks place false
-
--- From the state at a place that is marked an order leads to an end. At one that isn't the run has not ended, and no edge leads to one that is.
-pub record AreMarks (states : List KernelState) (edges : List Edge) (marks : List Bool) : Type 0 where
-  pub long : length marks ≡ length states
-  pub ends : (i : ℕ) (d : KernelState) → i < length states → is_marked marks i ≡ true → HasEnd states (slice_index_or states i d)
-  pub quiet : (i : ℕ) (d : KernelState) → i < length states → is_marked marks i ≡ false → is_quiet (slice_index_or states i d) ≡ false
-  pub closed : (i : ℕ) (d : Edge) → i < length edges → is_marked marks (slice_index_or edges i d).from ≡ false → is_marked marks (slice_index_or edges i d).to ≡ false
-
 -- ON THE WAY
 
--- the mark of a place to which an edge leads is passed on to that from which it leads
-abbrev pub passed_on : List Bool → Edge → List Bool
-passed_on marks e = if is_marked marks e.to then slice_set marks e.from true else marks
-
--- marks that were passed on by the edges from one on
-pub record AreMarksFrom (states : List KernelState) (edges : List Edge) (first : ℕ) (marks : List Bool) : Type 0 where
-  pub long : length marks ≡ length states
-  pub ends : (i : ℕ) (d : KernelState) → i < length states → is_marked marks i ≡ true → HasEnd states (slice_index_or states i d)
-  pub quiet : (i : ℕ) (d : KernelState) → i < length states → is_marked marks i ≡ false → is_quiet (slice_index_or states i d) ≡ false
-  pub closed : (i : ℕ) (d : Edge) → first ≤ i → i < length edges → is_marked marks (slice_index_or edges i d).from ≡ false → is_marked marks (slice_index_or edges i d).to ≡ false
-
--- none of the edges leads from a place behind this one
+-- none of the edges leads from a place behind `place`
 pub record AreUpTo (states : List KernelState) (edges : List Edge) (place : ℕ) : Type 0 where
   pub are : AreEdges states edges
   pub most : (i : ℕ) (d : Edge) → i < length edges → (slice_index_or edges i d).from ≤ place

@@ -2,3 +2,4 @@ pub use Rattle.nova_model.specs.Runs
 pub mod Searches
 pub mod Reductions
 pub mod Edges
+pub mod Going

@@ -30,7 +30,7 @@ pub record IsFull (n : ℕ) (touch : KernelState → ℕ → Touch) (noted : ℕ
   pub each : (q : ℕ) → q < n → Contains states (after s q)
   pub notes : (q : ℕ) → q < n → noted q (touch s q) ≡ true
 
--- the turn of one processor was taken in a state, noted as one that is apart from those of others; it brings a state of lesser rank
+-- the turn of one processor was taken in a state, noted as apart from those of others; it brings a state of lesser rank
 pub record IsLone (n : ℕ) (touch : KernelState → ℕ → Touch) (noted lone : ℕ → Touch → Bool) (rank : KernelState → ℕ) (states : List KernelState) (s : KernelState) : Type 0 where
   pub cpu : ℕ
   pub processor : cpu < n

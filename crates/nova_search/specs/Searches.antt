@@ -1,5 +1,5 @@
 -- Which states a kernel comes to, in whatever order its processors take their turns, and what a search of them says.
-use Rattle.std.specs.Prelude.{◌≡◌, ◌⊎◌, ℕ, ◌+◌, ◌<◌, ◌≤◌, Bool, true, false, List, [], ◌∷◌, ◌++◌, length, map, slice_index_or, Option, Some, None, All, Contains}
+use Rattle.std.specs.Prelude.{◌≡◌, ◌⊎◌, ℕ, ◌+◌, ◌^◌, ◌<◌, ◌≤◌, Bool, true, false, List, [], ◌∷◌, ◌++◌, drop, length, map, slice_index_or, Option, Some, None, All, Contains}
 use Rattle.std.specs.List.{AllByRecursion}
 use Rattle.nova_model.specs.State.{KernelState}
 use Rattle.nova_model.specs.Runs.{IsFreeOfIdle, after, run}
@@ -64,7 +64,7 @@ IsFirst test states (Some place) = IsFirstAt test states place
 IsFirst test states None = (s : KernelState) → Contains states s → test s ≡ false
 
 abbrev pub state_of : Found → KernelState
-state_of f = f.vertex
+state_of f = f.vertex.value
 
 abbrev pub states_of : List Found → List KernelState
 states_of found = map state_of found
@@ -72,11 +72,12 @@ states_of found = map state_of found
 abbrev pub state_at : List Found → ℕ → KernelState → KernelState
 state_at found place d = slice_index_or (states_of found) place d
 
--- a state was found after a turn of a processor in a state that was found before it
+-- a state was found after a turn of a processor in a state that was found before it, in which fewer than 2^31 were taken
 pub record IsLink (found : List Found) (i : ℕ) (f : Found) : Type 0 where
   pub before : f.from < i
   pub processor : (d : KernelState) → f.cpu < (state_at found f.from d).cpus
   pub next : (d : KernelState) → IsSuccessor (state_at found f.from d) f.cpu (state_of f)
+  pub few : (state_of f).turns ≤ 2 ^ 31
 
 -- each state but the first was found so
 pub record AreLinked (found : List Found) : Type 0 where
@@ -89,9 +90,19 @@ pub record IsExpanded (n : ℕ) (states : List KernelState) (s : KernelState) : 
   pub each : (cpu : ℕ) → cpu < n → Contains states (after s cpu)
   pub turns : (cpu : ℕ) → cpu < n → (after s cpu).turns ≤ s.turns + 1
 
--- nothing more was found, or one more
-abbrev pub IsMore : List Found → Found → List Found → Type 0
-IsMore old f new = (new ≡ old) ⊎ (new ≡ old ++ f ∷ [])
+-- a state was found after a turn of this processor in the state at a place
+pub record IsFoundAfter (f : Found) (place its_cpu : ℕ) (s : KernelState) : Type 0 where
+  pub from : f.from ≡ place
+  pub cpu : f.cpu ≡ its_cpu
+  pub state : state_of f ≡ s
+
+-- nothing more was found, or this state
+abbrev pub IsMore : List Found → ℕ → ℕ → KernelState → List Found → Type 0
+IsMore old place cpu s new = (new ≡ old) ⊎ ((f : Found) × IsFoundAfter f place cpu s × (new ≡ old ++ f ∷ []))
+
+-- the states from a place on are open: none of their turns was tried
+abbrev pub AreOpen : List KernelState → ℕ → List KernelState → Type 0
+AreOpen states first frontier = frontier ≡ drop first states
 
 -- what was found since stands behind what was found before, and has taken so many turns
 pub record Grows (old new : List KernelState) (turns : ℕ) : Type 0 where

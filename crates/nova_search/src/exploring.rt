@@ -1,15 +1,17 @@
-ghost use Rattle.std.specs.Prelude.{◌≡◌, ◌^◌, ◌<◌, ◌≤◌, ℕ, true, false, [], ◌∷◌, length, None, All, IfOk};
+ghost use Rattle.std.specs.Prelude.{◌≡◌, ◌+◌, ◌^◌, ◌<◌, ◌≤◌, ℕ, true, false, [], ◌∷◌, length, None, All, IfOk, List, OnOk};
 ghost use Rattle.std.specs.Bool.{OnTrue};
 ghost use Rattle.nova_model.specs.State.{KernelState};
 ghost use Rattle.nova_search.specs.Reductions.{IsStill};
 ghost use Rattle.nova_search.specs.Edges.{AreAhead, AreEdges, AreTried};
-ghost use Rattle.nova_search.specs.Searches.{AreAll, AreAllWithin, AreLinked, AreNearest, IsFirst, IsReached, state_at, state_of, states_of};
+ghost use Rattle.nova_search.specs.Going.{IsEnded, IsGoing, IsSeen};
+ghost use Rattle.nova_search.specs.Searches.{AreAll, AreAllWithin, AreLinked, AreNearest, AreOpen, IsFirst, IsReached, state_at, states_of};
 
 use crate::edges::Edge;
-use crate::found::{Found, expand};
+use crate::expanding::{expand, found_after, let_go};
+use crate::found::Found;
+use crate::frontier::Frontier;
 use crate::goal::Goal;
 use crate::hash::hash_of;
-use crate::index::Index;
 use nova_compare::Vertex;
 use std::alloc::{AllocError, Global};
 
@@ -24,53 +26,156 @@ pub struct Explored {
     pub is_whole: bool,
 }
 
+/// What a search came to: the first place of a state that is looked for, whether it is over, and whether it is whole.
+#[derive(Clone, Copy)]
+pub(crate) struct Course {
+    pub goal: Option<usize>,
+    pub is_over: bool,
+    pub is_whole: bool,
+}
+
 /// Whether a search that was whole or wasn't is whole where it doesn't expand a state: if no processor has a turn to take in it.
-fn stays_whole(is_whole: bool, f: &Found) -> bool
-    ensures { OnTrue result ((is_whole ≡ true) × IsStill (state_of f.now).cpus (state_of f.now)) }
+fn stays_whole(is_whole: bool, vertex: &Vertex) -> bool
+    ensures { OnTrue result ((is_whole ≡ true) × IsStill vertex.now.cpus vertex.now) }
 {
     law_turns::quiet_is_every_processor_idle();
-    is_whole && f.vertex.kernel().quiet()
+    is_whole && vertex.kernel().quiet()
 }
 
-/// What is found first: the state in which the search begins.
-fn begun(alloc: Global, opening: &Vertex, index: &mut Index) -> Result<Vec<Found>, AllocError>
-    ensures { IfOk result (λ found. states_of found.items ≡ opening.now ∷ []) }
+/// Enters the state in which a search begins.
+fn begin(
+    opening: &Vertex,
+    found: &mut Vec<Found>,
+    frontier: &mut Frontier,
+) -> Result<(), AllocError>
+    requires found { found.old.items ≡ [] }
+    requires frontier { frontier.old ≡ [] }
+    ensures found { OnOk result (states_of found.new.items ≡ opening.now ∷ []) }
+    ensures frontier { OnOk result (AreOpen (states_of found.new.items) 0 frontier.new) }
 {
-    index.add(hash_of(opening))?;
-    let mut found = Vec::new(alloc);
-    found.push(Found {
-        vertex: opening.copy()?,
-        from: 0,
-        cpu: 0,
-    })?;
-    Ok(found)
+    found.push(found_after(opening, 0, 0))?;
+    let hash = hash_of(opening);
+    frontier.push(opening.copy()?, hash)
 }
 
-/// Whether a state that was found is looked for.
-fn is_goal<G: Goal>(alloc: Global, f: &Found, goal: &G) -> Result<bool, AllocError>
-    requires { G.apt goal.now }
-    ensures { IfOk result (λ is. is ≡ G.met goal.now (state_of f.now)) }
-{
-    goal.is_met(alloc, f.vertex.kernel())
-}
-
-/// The first place whose state is looked for, none of those before `place` being so.
-pub fn first_goal<G: Goal>(
+/// Goes through the state of a vertex, at a place of what was found, behind which states are open: tests it, and expands it if it is not
+/// looked for and has taken fewer turns than the limit. Whether the search stays whole, or none where the state is looked for.
+fn see<G: Goal>(
     alloc: Global,
-    found: &[Found],
-    place: usize,
+    vertex: &Vertex,
+    limit: u64,
+    is_whole: bool,
     goal: &G,
+    found: &mut Vec<Found>,
+    frontier: &mut Frontier,
+    edges: &mut Vec<Edge>,
+    place: usize,
+) -> Result<Option<bool>, AllocError>
+    requires limit { limit ≤ 2 ^ 31 }
+    requires apt { G.apt goal.now }
+    requires place { place < length found.old.items }
+    requires here { (d : KernelState) → state_at found.old.items place d ≡ vertex.now }
+    requires frontier { AreOpen (states_of found.old.items) (place + 1) frontier.old }
+    ensures seen { IfOk result (λ o. (k : KernelState) → IsGoing (G.met goal.now) k limit found.old.items edges.old.items place is_whole
+        → IsSeen (G.met goal.now) k limit found.new.items edges.new.items place is_whole o) }
+    ensures frontier { OnOk result (AreOpen (states_of found.new.items) (place + 1) frontier.new) }
+{
+    if goal.is_met(alloc, vertex.kernel())? {
+        return Ok(None);
+    }
+    if vertex.turns() < limit {
+        expand(vertex, found, frontier, edges, place)?;
+        return Ok(Some(is_whole));
+    }
+    Ok(Some(stays_whole(is_whole, vertex)))
+}
+
+/// The first state that is looked for, where it is none of those before `most`. Those from there on are open.
+fn first_open<G: Goal>(
+    alloc: Global,
+    most: usize,
+    goal: &G,
+    found: &[Found],
+    frontier: &Frontier,
 ) -> Result<Option<usize>, AllocError>
     requires apt { G.apt goal.now }
-    requires none { (i : ℕ) (d : KernelState) → i < place → G.met goal.now (state_at found.now i d) ≡ false }
-    ensures { IfOk result (IsFirst (G.met goal.now) (states_of found.now)) }
+    requires frontier { AreOpen (states_of found.now) most frontier.now }
+    ensures { IfOk result (λ o. ((i : ℕ) (d : KernelState) → i < most → G.met goal.now (state_at found.now i d) ≡ false) → IsFirst (G.met goal.now) (states_of found.now) o) }
 {
-    for i in place..found.len() {
-        if is_goal(alloc, &found[i], goal)? {
-            return Ok(Some(i));
+    for i in 0..frontier.len() {
+        if goal.is_met(alloc, frontier.vertex(i).kernel())? {
+            return Ok(Some(most + i));
         }
     }
     Ok(None)
+}
+
+/// What a search comes to behind the places that it goes through. The states from `most` on are open.
+fn ended<G: Goal>(
+    alloc: Global,
+    most: usize,
+    is_whole: bool,
+    goal: &G,
+    found: &[Found],
+    frontier: &Frontier,
+) -> Result<Course, AllocError>
+    requires apt { G.apt goal.now }
+    requires frontier { AreOpen (states_of found.now) most frontier.now }
+    ensures { IfOk result (λ c. (k : KernelState) (limit : ℕ) (edges : List Edge) → IsGoing (G.met goal.now) k limit found.now edges most is_whole
+        → IsEnded (G.met goal.now) k limit most found.now edges c) }
+{
+    let first = first_open(alloc, most, goal, found, frontier)?;
+    Ok(Course {
+        goal: first,
+        is_over: found.len() <= most,
+        is_whole,
+    })
+}
+
+/// Goes through the states that `opening` comes to, from nothing that was found.
+fn go_through<G: Goal>(
+    alloc: Global,
+    opening: &Vertex,
+    limit: u64,
+    most: usize,
+    goal: &G,
+    found: &mut Vec<Found>,
+    frontier: &mut Frontier,
+    edges: &mut Vec<Edge>,
+) -> Result<Course, AllocError>
+    requires limit { limit ≤ 2 ^ 31 }
+    requires apt { G.apt goal.now }
+    requires found { found.old.items ≡ [] }
+    requires frontier { frontier.old ≡ [] }
+    requires edges { edges.old.items ≡ [] }
+    ensures { IfOk result (IsEnded (G.met goal.now) opening.now limit most found.new.items edges.new.items) }
+{
+    begin(opening, found, frontier)?;
+    let mut is_whole = true;
+    for place in 0..most {
+        let Some(vertex) = frontier.take() else {
+            return Ok(Course {
+                goal: None,
+                is_over: true,
+                is_whole,
+            });
+        };
+        let seen = see(
+            alloc, &vertex, limit, is_whole, goal, found, frontier, edges, place,
+        );
+        frontier.let_go(vertex);
+        match seen? {
+            Some(stays) => is_whole = stays,
+            None => {
+                return Ok(Course {
+                    goal: Some(place),
+                    is_over: false,
+                    is_whole,
+                });
+            }
+        }
+    }
+    ended(alloc, most, is_whole, goal, found, frontier)
 }
 
 /// The states that `opening` comes to, in whatever order its processors take turns: those after at most `limit` turns, counted from
@@ -108,43 +213,26 @@ pub fn explore<G: Goal>(
     ensures tried { IfOk result (λ s. s.is_over ≡ true → (place : ℕ) (d : KernelState) → place < length s.found.items → (state_at s.found.items place d).turns < limit
         → AreTried opening.now.cpus (states_of s.found.items) s.edges.items place) }
 {
-    let mut index = Index::new(alloc);
-    let mut found = begun(alloc, opening, &mut index)?;
+    let mut found = Vec::new(alloc);
     let mut edges = Vec::new(alloc);
-    let cpus = opening.cpus();
-    let mut is_whole = true;
-    for place in 0..most {
-        if place >= found.len() {
-            return Ok(Explored {
-                found,
-                edges,
-                goal: None,
-                is_over: true,
-                is_whole,
-            });
-        }
-        if is_goal(alloc, &found[place], goal)? {
-            return Ok(Explored {
-                found,
-                edges,
-                goal: Some(place),
-                is_over: false,
-                is_whole,
-            });
-        }
-        if found[place].vertex.turns() < limit {
-            expand(&mut found, &mut index, &mut edges, place, cpus)?;
-        } else {
-            is_whole = stays_whole(is_whole, &found[place]);
-        }
-    }
-    let first = first_goal(alloc, &found, most, goal)?;
-    let is_over = found.len() <= most;
+    let mut frontier = Frontier::new(alloc);
+    let course = go_through(
+        alloc,
+        opening,
+        limit,
+        most,
+        goal,
+        &mut found,
+        &mut frontier,
+        &mut edges,
+    );
+    let_go(frontier);
+    let course = course?;
     Ok(Explored {
         found,
         edges,
-        goal: first,
-        is_over,
-        is_whole,
+        goal: course.goal,
+        is_over: course.is_over,
+        is_whole: course.is_whole,
     })
 }

@@ -2,31 +2,32 @@ ghost use Rattle.std.specs.Prelude.{◌≡◌, ◌+◌, ◌^◌, ◌<◌, ◌≤
 ghost use Rattle.nova_compare.specs.Steps.{IsSuccessor};
 ghost use Rattle.nova_search.specs.Searches.{IsEnd, IsWay};
 
-use nova_compare::Vertex;
-use std::alloc::AllocError;
+use nova_compare::{Spares, Vertex};
+use std::alloc::{AllocError, Global};
+use std::mem;
 
-/// Goes on by a turn of a processor, and says whether it took one: it may be idle, or not be there.
-fn go_on(vertex: &mut Vertex, cpu: u32) -> Result<bool, AllocError>
+/// Goes on by a turn of the processor `cpu`, and says whether it took one: it may be idle, or not be there.
+fn go_on(vertex: &mut Vertex, spares: &mut Spares, cpu: u32) -> Result<bool, AllocError>
     requires { vertex.old.turns < 2 ^ 31 }
     ensures { IfOk result (λ went. went ≡ true → (cpu < vertex.old.cpus) × IsSuccessor vertex.old cpu vertex.new) }
 {
     if cpu >= vertex.cpus() {
         return Ok(false);
     }
-    let Some(next) = vertex.next(cpu)? else {
+    let Some(next) = vertex.next(cpu, spares)? else {
         return Ok(false);
     };
-    *vertex = next;
+    spares.keep(mem::replace(vertex, next));
     Ok(true)
 }
 
-/// Goes along an order of turns, and says whether it took each.
-fn go_along(vertex: &mut Vertex, order: &[u32]) -> Result<bool, AllocError>
+/// Goes along `order`, and says whether it took each turn.
+fn go_along(vertex: &mut Vertex, spares: &mut Spares, order: &[u32]) -> Result<bool, AllocError>
     requires { vertex.old.turns + length order.now ≤ 2 ^ 31 }
     ensures { IfOk result (λ went. went ≡ true → IsWay vertex.old vertex.new order.now) }
 {
     for cpu in order {
-        if !go_on(vertex, *cpu)? {
+        if !go_on(vertex, spares, *cpu)? {
             return Ok(false);
         }
     }
@@ -35,12 +36,13 @@ fn go_along(vertex: &mut Vertex, order: &[u32]) -> Result<bool, AllocError>
 
 /// The vertex after the turns of `order` from `opening`; none where one of them is of a processor that isn't there, or is idle. At most 2^31
 /// turns are taken in all.
-pub fn follow(opening: &Vertex, order: &[u32]) -> Result<Option<Vertex>, AllocError>
+pub fn follow(alloc: Global, opening: &Vertex, order: &[u32]) -> Result<Option<Vertex>, AllocError>
     requires { opening.now.turns + length order.now ≤ 2 ^ 31 }
     ensures { IfOk result (IsEnd opening.now order.now) }
 {
+    let mut spares = Spares::new(alloc);
     let mut vertex = opening.copy()?;
-    if go_along(&mut vertex, order)? {
+    if go_along(&mut vertex, &mut spares, order)? {
         Ok(Some(vertex))
     } else {
         Ok(None)

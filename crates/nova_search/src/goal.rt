@@ -12,7 +12,7 @@ pub trait Goal {
     /// Whether a state is looked for.
     ghost met: { Self → KernelState → Bool };
 
-    /// Whether the state of a kernel is looked for.
+    /// Whether the state of `kernel` is looked for.
     fn is_met(&self, alloc: Global, kernel: &Kernel) -> Result<bool, AllocError>
         requires { apt self.now }
         ensures { IfOk result (λ is. is ≡ met self.now kernel.now.state) };

@@ -7,12 +7,12 @@ const FIRST: u64 = 0xcbf2_9ce4_8422_2325;
 /// What a hash is multiplied by at each word.
 const FACTOR: u64 = 0x9e37_79b9_7f4a_7c15;
 
-/// A hash with one word more.
+/// `hash` with `word`.
 fn with(hash: u64, word: u64) -> u64 {
     (hash ^ word).wrapping_mul(FACTOR).rotate_left(29)
 }
 
-/// What a state is, as a number.
+/// What `state` is, as a number.
 fn number_of(state: State) -> u64 {
     match state {
         State::Fresh => 0,
@@ -30,7 +30,7 @@ fn number_of(state: State) -> u64 {
     }
 }
 
-/// A hash with an execution context: its state, its program counter and its registers.
+/// `hash` with `context`: its state, its program counter and its registers.
 fn with_context(hash: u64, context: &EcState) -> u64 {
     let mut hash = with(hash, number_of(context.state));
     hash = with(hash, u64::from(context.regs.pc()));
@@ -40,7 +40,7 @@ fn with_context(hash: u64, context: &EcState) -> u64 {
     hash
 }
 
-/// A hash with the object of a number: an execution context, a scheduling context or a semaphore.
+/// `hash` with the object of number `n`: an execution context, a scheduling context or a semaphore.
 fn with_object(hash: u64, kernel: &Kernel, n: u32) -> u64 {
     if let Some(context) = kernel.ec(n) {
         return with_context(hash, context);
@@ -54,16 +54,21 @@ fn with_object(hash: u64, kernel: &Kernel, n: u32) -> u64 {
     }
 }
 
-/// A hash with a frame: the lowest byte of each word.
+/// `hash` with `frame`, of whose bytes each eight are a word. Every fourth word goes into one of four hashes, so that none waits for another.
 fn with_frame(hash: u64, frame: &[u8]) -> u64 {
-    let mut hash = hash;
-    for byte in frame.iter().step_by(4) {
-        hash = with(hash, u64::from(*byte));
+    let (words, _rest) = frame.as_chunks::<8>();
+    let (rows, _rest) = words.as_chunks::<4>();
+    let mut hashes = [hash, FIRST, FIRST, FIRST];
+    for row in rows {
+        hashes[0] = with(hashes[0], u64::from_le_bytes(row[0]));
+        hashes[1] = with(hashes[1], u64::from_le_bytes(row[1]));
+        hashes[2] = with(hashes[2], u64::from_le_bytes(row[2]));
+        hashes[3] = with(hashes[3], u64::from_le_bytes(row[3]));
     }
-    hash
+    with(with(with(hashes[0], hashes[1]), hashes[2]), hashes[3])
 }
 
-/// A hash with what consoles show.
+/// `hash` with what consoles show, `log`.
 fn with_log(hash: u64, log: &[LogByte]) -> u64 {
     let mut hash = hash;
     for byte in log {
@@ -72,7 +77,7 @@ fn with_log(hash: u64, log: &[LogByte]) -> u64 {
     hash
 }
 
-/// The hash of the state of a vertex. States of one hash may differ.
+/// The hash of the state of `vertex`. States of one hash may differ.
 pub(crate) fn hash_of(vertex: &Vertex) -> u64 {
     let kernel = vertex.kernel();
     let mut hash = with(FIRST, kernel.turns());

@@ -5,7 +5,7 @@ ghost use Rattle.nova_search.specs.Searches.{AreLinked, IsWay, state_at};
 use crate::found::Found;
 use std::alloc::{AllocError, Global};
 
-/// The order of turns by which the state at a place of what was found was come to, from the first.
+/// The order of turns, from the first, by which the state at `place` of `found` was reached.
 pub fn path_to(alloc: Global, found: &[Found], place: usize) -> Result<Vec<u32>, AllocError>
     requires place { place < length found.now }
     requires linked { AreLinked found.now }

@@ -21,6 +21,7 @@ from small import Scenario
 from where import EXAMPLES, TOOL, Replayer, asked, ended, find, there
 
 from answers import Unread, read_answer
+from questions import reported
 from variables import NoSymbol, frame_of
 
 # The compiler that the kept scenarios were made with. Another may write other bytes.
@@ -72,9 +73,10 @@ class Enumerated(unittest.TestCase):
                 scenario = EXAMPLES / f"{name}.nova"
                 wanted = by_each_order(scenario, Replayer(Means.nova, Means.debug, Path(folder)))
                 _, answer = asked(Means.program, scenario, ["ends"])
-                self.assertEqual({outcome.lines for outcome in answer.outcomes or ()}, set(wanted))
+                told = {tuple(map(reported, outcome.lines)): outcome.states for outcome in answer.outcomes or ()}
+                self.assertEqual(set(told), set(wanted))
                 if is_counted:
-                    self.assertEqual({outcome.lines: outcome.states for outcome in answer.outcomes or ()}, wanted)
+                    self.assertEqual(told, wanted)
 
 
 class Wrong(unittest.TestCase):
@@ -145,6 +147,10 @@ REFUSED = (
     ("race.nova stuck", 2, USAGE),
     ("race.nova console 0 3", 2, USAGE),
     ("race.nova word 0 4093 1", 2, USAGE),
+    ("race.nova stores 0 8 7", 2, USAGE),
+    ("race.nova stores 0 0 4096", 2, USAGE),
+    ("race.nova hangs", 2, USAGE),
+    ("race.nova hangs 0", 2, USAGE),
     ("race.nova word 0 0 0x100000000", 2, USAGE),
     ("race.nova ends --turns 0", 2, USAGE),
     ("race.nova ends --turns 10000001", 2, USAGE),
@@ -153,6 +159,7 @@ REFUSED = (
     ("/dev/null ends", 4, "scenario line 1: Missing"),
     ("race.nova console 1 31", 5, "the scenario has no such console or frame"),
     ("race.nova word 2 0 0", 5, "the scenario has no such console or frame"),
+    ("race.nova stores 2 0 0", 5, "the scenario has no such console or frame"),
 )
 
 
@@ -172,7 +179,7 @@ class Ends(unittest.TestCase):
 
     def test_what_is_not_written_and_memory_that_is_refused(self) -> None:
         self.assertEqual(self.ended('exec "$0" race.nova ends >/dev/full'), (6, "", "nova_explore: write fault\n"))
-        self.assertEqual(self.ended('ulimit -v 30000; exec "$0" race.nova ends'), (8, "", "nova_explore: out of memory\n"))
+        self.assertEqual(self.ended('ulimit -v 9000; exec "$0" race.nova ends'), (8, "", "nova_explore: out of memory\n"))
 
     def test_options_stand_anywhere(self) -> None:
         for words in ("--turns 30 race.nova blocked", "race.nova --turns=30 blocked", "race.nova blocked --turns 0x1e", "/dev/stdin blocked --turns 30 <race.nova"):
@@ -205,6 +212,11 @@ class Tool(Asking):
             (("race.nova", "dies", "but", "1"), 1, "an execution context but EC 1 dies after "),
             (("race.nova", "dies", "but", "99"), 1, "an execution context but EC 99 dies after "),
             (("explore/peterson.nova", "at", "0", "0x80", "0", "0x170"), 0, "domain 0 is about to execute 0x80 and domain 0 0x170 in no order, however long"),
+            (("explore/pulse.nova", "--turns", "60", "hangs", "60"), 1, "the run hangs for 60 turns after 23 turns in 1 line: "),
+            (("explore/locks_crossed.nova", "hangs", "30", "7"), 1, "EC 7 hangs for 30 turns after 45 turns in 2 lines: "),
+            (("explore/locks_crossed.nova", "blocked"), 1, "the run ends and an execution context waits after 47 turns "),
+            (("explore/locks_crossed.nova", "ends"), 0, "blocked SM 4"),
+            (("race.nova", "stores", "0", "0", "0x3"), 0, "a turn stores to the bytes 0 to 0x3 of frame 0 in no order, however long"),
             (("race.nova", "--states", "30", "blocked"), 7, "nothing is known of whether the run ends and an execution context waits: there are more"),
             (("race.nova", "--turns", "9", "ends"), 9, "the run ends in no order of at most 9 turns; nothing is known of longer ones"),
             (("race.nova", "--states", "30", "ends"), 7, "0 outcomes, and perhaps more: there are more states than --states allows"),
@@ -225,6 +237,9 @@ class Tool(Asking):
             (("race.nova", "--states", "many", "ends"), "--states: 'many' is no number"),
             (("race.nova", "word", "0", "4093", "1"), "OFFSET: 4,093 is not from 0 to 4,092"),
             (("race.nova", "word", "0", "0", "1x"), "VALUE: '1x' is no number"),
+            (("race.nova", "stores", "0", "8", "7"), "FIRST stands behind LAST"),
+            (("race.nova", "stores", "counter"), "a variable wants one executable: --elf FILE"),
+            (("race.nova", "hangs", "0"), "TURNS: 0 is not from 1 to 10,000,000"),
             (("race.nova", "dies", "adder"), "adder is no number, and names no execution context that is there after a run by rounds"),
             (("race.nova", "word", "77", "0", "1"), "nova_explore: the scenario has no such console or frame"),
             (("nosuch.nova", "ends"), "No such file or directory"),
@@ -277,6 +292,9 @@ class InC(Asking):
         told = self.explored(scenario, *elf, "asserts")
         self.assertEqual((told.returncode, told.stderr), (0, ""))
         self.assertIn("queue.nova: an assertion fails in no order, however long", told.stdout)
+        told = self.explored(scenario, *elf, "stores", "taken")
+        self.assertEqual((told.returncode, told.stderr), (1, ""))
+        self.assertIn("queue.nova: a turn stores to taken after ", told.stdout)
         scenario, elf = self.built("--debug", "-O2", "-DEARLY")
         told = self.explored(scenario, *elf, "asserts")
         self.assertEqual((told.returncode, told.stderr), (1, ""))

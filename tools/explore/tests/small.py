@@ -192,9 +192,13 @@ class Machine:
             made = made.with_thread(cpu, replace(thread, state="blocked"))
         return replace(made, counts=tuple(counts), queues=tuple(queues))
 
+    def told(self, cpu: int) -> str:
+        """The state of a thread, with the semaphore at which it waits."""
+        return " ".join([self.threads[cpu].state, *(str(3 + i) for i in range(2) if cpu in self.queues[i])])
+
     def outcome(self) -> tuple[str, ...]:
-        """What reports tell of it, where neither processor has a turn."""
-        first, second = (thread.state for thread in self.threads)
+        """What the explorer tells of it, where neither processor has a turn."""
+        first, second = (self.told(cpu) for cpu in range(2))
         contexts = f"ec {ROOT} {first}", f"ec {HANDLER} parked", f"ec {THREAD} {second}"
         semaphores = (f"sm {3 + i} {self.counts[i]} {len(self.queues[i])}" for i in range(2))
         return (*contexts, *semaphores, f"console 0 {self.shown.hex() or '-'}")

@@ -11,14 +11,14 @@ pub loop-place-init : goal.loop-place-init
 loop-place-init c =
     let none : c.new-ends.result.items ≡ [] = c.new-ends.ensures.items in
     record {
-      lead = λ k first. subst (λ (l : List End). AllByRecursion (IsEnd k) l) (sym none) tt;
+      lead = λ k limit first. subst (λ (l : List End). AllByRecursion (IsEnd k limit) l) (sym none) tt;
       have = λ d j less quiet. absurd (omega (arith, less));
       once = subst (λ (l : List End). AreDistinct (outcomes l)) (sym none) tt;
     }
 
 pub loop-place-preserved : goal.loop-place-preserved
 loop-place-preserved c = record {
-  lead = λ k first. c.in_ok-see.ensures.lead k first (c.loop-place.invariant.lead k first);
+  lead = λ k limit first. c.in_ok-see.ensures.lead k limit first (c.loop-place.invariant.lead k limit first);
   have = have_on (states_of c.args.found.now) c.loop-place.place (outcomes c.loop-place.ends.items) (outcomes c.see.new.ends.items) c.loop-place.invariant.have
       c.in_ok-see.ensures.kept.outcomes c.in_ok-see.ensures.there;
   once = c.in_ok-see.ensures.kept.once c.loop-place.invariant.once;

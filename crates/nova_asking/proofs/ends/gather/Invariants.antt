@@ -1,3 +1,4 @@
+use Rattle.std.specs.Prelude.{ℕ}
 use Rattle.nova_model.specs.State.{KernelState}
 use Rattle.std.specs.List.{AllByRecursion}
 use Rattle.nova_search.specs.Searches.{states_of}
@@ -8,7 +9,7 @@ use Rattle.nova_asking.proofs.ends.gather.Given as goal
 -- the outcomes so far
 abbrev pub invariant-loop-place : goal.invariant-loop-place
 invariant-loop-place l = record {
-  lead : (k : KernelState) → AreFrom k l.found → AllByRecursion (IsEnd k) l.ends.items;
+  lead : (k : KernelState) (limit : ℕ) → AreFrom k limit l.found → AllByRecursion (IsEnd k limit) l.ends.items;
   have : HaveSoFar (states_of l.found) l.place (outcomes l.ends.items);
   once : AreDistinct (outcomes l.ends.items);
 }

@@ -1,11 +1,10 @@
 use Rattle.std.proofs.Common.{rules, ◌≡◌}
 use Rattle.nova_model.specs.Choice.{is_quiet}
-use Rattle.nova_search.specs.Searches.{state_of}
 use Rattle.nova_search.proofs.Going.{whole_if}
 use Rattle.nova_search.proofs.exploring.stays_whole.Goals as goal
 
 pub returns-then-is_whole : goal.returns-then-is_whole
 returns-then-is_whole c =
-    let s = state_of c.args.f.now in
+    let s = c.args.vertex.now in
     let is : c.quiet.result ≡ is_quiet s = search rules in
     whole_if c.args.is_whole c.quiet.result s (search rules) is (c.quiet_is_every_processor_idle.ensures s).0
