@@ -44,6 +44,10 @@ def orders(seed: object, made: Blocks, turns: int) -> Blocks:
     return blocks
 
 
+class Trouble(Exception):
+    """Why nothing can be said of the runs."""
+
+
 class Program:
     """Runs scenarios, whose files it keeps in a folder."""
 
@@ -54,9 +58,16 @@ class Program:
         paths = [self.folder / f"{name}.nova", self.folder / f"{name}.order"]
         paths[0].write_text(scenario)
         paths[1].write_text(text_of(blocks))
-        done = subprocess.run([self.program, "solo", *paths], capture_output=True, text=True, timeout=120)
+        try:
+            done = subprocess.run([self.program, "solo", *paths], capture_output=True, text=True, timeout=120)
+        except OSError as error:
+            raise Trouble(f"{self.program}: {error.strerror}") from error
+        except subprocess.TimeoutExpired as error:
+            raise Trouble(f"{self.program}: {name} takes longer than {error.timeout:.0f} seconds") from error
         if done.returncode not in (0, 7):
-            raise SystemExit(f"{name}: status {done.returncode}, {done.stderr.strip()}")
+            raise Trouble(f"{self.program}: {name}: status {done.returncode}, {done.stderr.strip()}")
+        if not done.stdout.startswith("run "):
+            raise Trouble(f"{self.program}: {name}: what it writes is no report")
         return done.stdout
 
 
@@ -82,7 +93,7 @@ def compared(program: Program, name: str, scenarios: list[str], places: list[Blo
         parts.append((part(place, since), part(program.report(f"{name}.{other}", scenarios[other], blocks), since)))
     apart = difference(parts[0][0], parts[1][0])
     if apart:
-        raise SystemExit(f"{name}: the sides differ where they are to be compared: {apart}")
+        raise Trouble(f"{name}: the sides differ where they are to be compared: {apart}")
     premises |= at_work(parts[0][1][0])
     return premises, difference(parts[0][1], parts[1][1]), len(parts[0][1][0])
 
@@ -128,6 +139,14 @@ def tell_leak(program: Program, name: str, turns: int) -> bool:
     return premises == leak.breaks and differs is not None
 
 
+def tell(words: argparse.Namespace, program: Program) -> int:
+    if words.leak or words.leaks:
+        right = [tell_leak(program, name, words.turns) for name in ([words.leak] if words.leak else LEAKS)]
+    else:
+        right = [tell_pairs(program, words.walled, words.first, words.count, words.turns)]
+    return 0 if all(right) else 1
+
+
 def main() -> int:
     parser = argparse.ArgumentParser(prog="tools/flow")
     parser.add_argument("--program", default="./nova")
@@ -143,12 +162,11 @@ def main() -> int:
     with tempfile.TemporaryDirectory() as folder:
         if words.keep:
             words.keep.mkdir(parents=True, exist_ok=True)
-        program = Program(words.program, words.keep or Path(folder))
-        if words.leak or words.leaks:
-            right = [tell_leak(program, name, words.turns) for name in ([words.leak] if words.leak else LEAKS)]
-        else:
-            right = [tell_pairs(program, words.walled, words.first, words.count, words.turns)]
-    return 0 if all(right) else 1
+        try:
+            return tell(words, Program(words.program, words.keep or Path(folder)))
+        except Trouble as why:
+            print(f"tools/flow: {why}", file=sys.stderr)
+            return 2
 
 
 if __name__ == "__main__":

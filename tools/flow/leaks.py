@@ -95,6 +95,12 @@ LEAKS = {
         COUNTS,
         others=(RESTS, ["ebreak"]),
     ),
+    "away": Leak(
+        "a thread of the side's is on the other side's processor: it takes turns there where that one takes none",
+        frozenset({"HasHome.contexts"}),
+        COUNTS,
+        others=(RESTS, ["ebreak"]),
+    ),
     "root": Leak(
         "a thread of the root's on the processor isn't idle: it goes on, or ends",
         frozenset({"AreSeparate.rest"}),
@@ -145,12 +151,6 @@ LEAKS = {
         frozenset({"IsClosed.capabilities", "IsSide.holds"}),
         SPINS + ["again:", "lui x5, 0xfffff", "sw x0, 0(x5)"] + call(0, SERVER, 0) + ["lw x10, 16(x5)", li(7, CONSOLE[0] * 4096), "sb x10, 0(x7)", "j again"],
         others=(RESTS, ["lui x5, 0xfffff", "sw x0, 0(x5)"] + call(0, SERVER, 0)),
-    ),
-    "gives": Leak(
-        "the side gives a capability: the event has the number of the range, which tells how many there are",
-        frozenset({"IsAtWork.state"}),
-        SPINS + message([(word("obj", HANDLER, 0, 1), 100 << 12 | 1)]) + call(0, PORTAL, 0),
-        elsewhere=(["ebreak"], ONE_MORE),
     ),
     "creates": Leak(
         "the side creates a semaphore, whose number tells how many objects there are",

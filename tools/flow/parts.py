@@ -16,21 +16,28 @@ def made_at(lines: list[list[str]], cpu: int) -> int:
     return next(int(line[6]) for line in lines if line[0] == "at" and int(line[2]) == cpu and line[4:6] == ["begin", "2"])
 
 
+def made_for(domain: int, lines: list[list[str]]) -> range:
+    """What the root makes for a side, with a thread on the other side's processor where a leak has it: else another domain has the number of that."""
+    contexts = {int(line[1]) for line in lines if line[0] == "ec"}
+    return range(domain, domain + (len(KINDS) if domain + 7 in contexts else 7))
+
+
 def objects_of(domain: int, lines: list[list[str]]) -> set[int]:
     """The objects of the side on processor 1: what the root makes for it, what semaphores it holds, and the one of the source there, if it isn't the others'."""
     semaphores = {int(line[1]) for line in lines if line[0] == "sm"}
     held = [(int(line[3]), int(line[8])) for line in lines if line[0] == "cap" and line[4] == "obj"]
     own = {target for holder, target in held if holder == domain}
     others = {target for holder, target in held if holder not in (0, domain)}
-    return set(range(domain, domain + 7)) | ({3 + 1} - others) | own & semaphores
+    return set(made_for(domain, lines)) | ({3 + 1} - others) | own & semaphores
 
 
 def part(report: str, since: int = 0) -> Part:
-    """The events of processor 1 after so many turns, and what there is of the side that is made there: objects by number, ranges by what they give."""
+    """The events of processor 1 after so many turns, but for numbers of ranges, and what there is of the side that is made there: objects by number, ranges by what they give."""
     lines = [line.split() for line in report.splitlines()]
     domain = made_at(lines, 1)
     own = objects_of(domain, lines)
     events = [line[2:] for line in lines if line[0] == "at" and line[2] == "1" and int(line[1]) > since]
+    events = [[*event[:3], "0", "0"] if event[2] == "made" else event for event in events]
     rest = []
     for line in lines:
         if line[0] in ("ec", "sc", "sm") and int(line[1]) in own or line[:2] in (["source", "1"], ["console", "0"]):

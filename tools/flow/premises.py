@@ -7,7 +7,7 @@ of how they are made; all else is read off the report.
 
 from __future__ import annotations
 
-from parts import KINDS, made_at, objects_of
+from parts import KINDS, made_at, made_for, objects_of
 from scenarios import SOURCES
 
 WRITE, CREATE = 2, 1
@@ -23,10 +23,10 @@ class State:
         self.contexts = {int(line[1]): line[3] for line in lines if line[0] == "ec"}
         self.kinds = {0: "pd"} | {int(line[1]): "sm" for line in lines if line[0] == "sm"}
         self.homes: dict[int, tuple[int, int]] = {}  # the domain and the processor of the sides' execution contexts
-        has_stranger = self.second + 7 in self.contexts
-        for domain, cpu, count in ((self.first, 1, 7), (self.second, 2, len(KINDS) if has_stranger else 7)):
-            self.kinds |= {domain + place: kind for place, kind in enumerate(KINDS[:count])}
-            self.homes |= {domain + place: (domain, 1 if place > 6 else cpu) for place, kind in enumerate(KINDS[:count]) if kind == "ec"}
+        self.made = [made_for(domain, lines) for domain in (self.first, self.second)]
+        for domain, cpu, made in ((self.first, 1, self.made[0]), (self.second, 2, self.made[1])):
+            self.kinds |= dict(zip(made, KINDS))
+            self.homes |= {n: (domain, 3 - cpu if n > domain + 6 else cpu) for n, kind in zip(made, KINDS) if kind == "ec"}
         self.capabilities = [Capability(line) for line in lines if line[0] == "cap"]
         self.by_number = {capability.number: capability for capability in self.capabilities}
         self.sources = [(int(line[2]), int(line[3])) for line in lines if line[0] == "source"]  # processor and semaphore
@@ -90,6 +90,8 @@ def of_processors(state: State) -> set[str]:
     for context, (domain, cpu) in state.homes.items():
         if domain == state.second and cpu == 1:
             found.add("IsDivided.others")
+        if domain == state.first and cpu != 1:
+            found.add("HasHome.contexts")
     if any(state.contexts[n] not in ("parked", "dead") for n in state.contexts if n not in state.homes):
         found.add("AreSeparate.rest")
     if any(cpu == 1 and semaphore not in state.own for cpu, semaphore in state.sources):
@@ -99,16 +101,15 @@ def of_processors(state: State) -> set[str]:
     return found
 
 
-GIVEN = {"made", "gone"}  # events of items and revokes
 CREATES = {"2", "3", "4", "5", "6", "7"}  # the creates and revoke
 
 
 def at_work(events: list[list[str]]) -> set[str]:
-    """Whether these events of the side's processor are of a side that asks for no create and no revoke, and sends no items."""
+    """Whether these events of the side's processor are of a side that asks for no create and no revoke."""
     found = set()
     for event in events:
         kind, a = event[2], event[3]
-        if kind in GIVEN:
+        if kind == "gone":
             found.add("IsAtWork.state")
         if kind == "answer" and a in CREATES:
             found.add("IsAtWork.calls")
@@ -118,6 +119,5 @@ def at_work(events: list[list[str]]) -> set[str]:
 def broken(report: str) -> set[str]:
     """The premises that don't hold."""
     state = State(report)
-    first = range(state.first, state.first + 7)
-    second = range(state.second, state.second + len(KINDS))
+    first, second = state.made
     return of_objects(state, state.first, first) | of_objects(state, state.second, second) | of_both(state) | of_processors(state)

@@ -179,7 +179,13 @@ class Attacker(Free):
 
 
 class Worker(Side):
-    """A side at work: it creates, gives and revokes nothing."""
+    """A side at work: it gives to itself, but creates and revokes nothing."""
+
+    def items(self, count: int) -> list[tuple[int, int]]:
+        return [(self.range(), self.rng.randrange(32, 1000) << 12 | self.rng.choice([0, 1, 1])) for _ in range(count)]
+
+    def serves(self) -> list[str]:
+        return message(self.items(self.rng.randrange(2)), self.rng.choice([0, 1, 2]))
 
     def step(self, depth: int) -> list[str]:
         rng, told = self.rng, self.told()
@@ -197,7 +203,9 @@ class Worker(Side):
         if kind == 5:
             return call(12, SHARED, rng.choice([1, 2]), rng.choice([0, 1, 3, 9, 20, 50])) + told
         if kind == 6:
-            return ["lui x5, 0xfffff"] + message([], rng.choice([0, 1, 3])) + call(0, rng.choice([PORTAL, PORTAL, self.free()]), rng.randrange(2)) + told
+            window = ALL if rng.random() < 0.7 else ALL_PAGES
+            opens = ["lui x5, 0xfffff", li(6, window), "sw x6, 8(x5)", "sw x6, 4(x5)"]
+            return opens + message(self.items(rng.choice([0, 1, 2, 3])), rng.choice([0, 1, 3])) + call(0, rng.choice([PORTAL, PORTAL, self.free()]), rng.randrange(2)) + told
         if kind == 7:
             return self.memory()
         return [f"addi x9, x9, {rng.randrange(9)}"]
@@ -242,7 +250,7 @@ class SetUp:
             items += [(word("obj", self.semaphore(side), 0, 3), SHARED), (word("obj", s + 6, 0, 1), CONTEXT)]
         if self.leak == "ticks":
             items = items[:-1] + ([(word("obj", 426, 0, 1), CONTEXT)] if side == 0 else [])
-        if self.leak == "stranger" and side == 1:
+        if (self.leak, side) in (("stranger", 1), ("away", 0)):
             items.append((word("obj", s + 8, 0, 4), STARTUP_AT + 1))
         if self.leak == "answers":
             items.append((word("obj", 211 + 2 * side, 0, 2), SERVER))
@@ -258,9 +266,9 @@ class SetUp:
         lines += call(0, s + 2, 0)
         lines += call(5, s + 3, 0, s + 1, 0, at + 0x100) + call(11, s + 3, at + 0x1000) + call(5, s + 4, 0, s + 1, 0, at + 0x200)
         lines += call(3, s + 5, s, 0x100 + cpu, 0, STARTUP_AT) + call(4, s + 6, 0, s + 5, 0x503)
-        if self.leak == "stranger" and side == 1:  # a thread of this side's on the other's processor
-            lines += call(3, s + 7, s, 1, 0, 0) + call(5, s + 8, 0, s + 7, 0, at + 0x100) + call(11, s + 8, at + 0x3000)
-            lines += call(3, s + 9, s, 0x101, 0, STARTUP_AT + 1) + call(4, s + 10, 0, s + 9, 0x504)
+        if (self.leak, side) in (("stranger", 1), ("away", 0)):  # a thread of this side's on the other's processor
+            lines += call(3, s + 7, s, 2 - side, 0, 0) + call(5, s + 8, 0, s + 7, 0, at + 0x100) + call(11, s + 8, at + 0x3000)
+            lines += call(3, s + 9, s, 0x100 + 2 - side, 0, STARTUP_AT + 1) + call(4, s + 10, 0, s + 9, 0x504 if side else 0x502)
         lines += message([(range_word, place << 12 | 1) for range_word, place in self.items(side)]) + call(0, s + 2, 0)
         if self.leak == "ancestor" and side == 0:  # and the root gives it to the other side
             lines += message([(word("mem", LENT_PAGE, 0, 1), COMMON[0] << 12 | 1)]) + call(0, s + 2, 0)

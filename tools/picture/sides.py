@@ -22,9 +22,11 @@ PLACE = re.compile(r"(trusted|[A-Za-z0-9_-]+):(\d+)")
 LINK = re.compile(r"from (\d+) (-|\d+) (\d+) (mem|obj) (\d+) (\d+) (\d+) (\d+)")
 NUMBER = re.compile(r"0|[1-9]\d*|0x[0-9a-fA-F]+")
 SIDE = re.compile(r"(trusted|side [A-Za-z0-9_-]+):((?: \d+)*)")
-ROLE = re.compile(r"domain (\d+) (bare|mute|at work)")
+ROLE = re.compile(r"domain (\d+) (at rest|bare|mute|at work)")
+SHARER = r" [A-Za-z0-9_-]+(?: up| down| waits)+"
+SHARED = re.compile(rf"shared (\d+):(?:{SHARER}(?:,{SHARER})*)?")
 PROCESSOR = re.compile(r"processor (\d+):((?: [A-Za-z0-9_-]+)*)")
-FLOW = re.compile(r"flow [A-Za-z0-9_-]+ (own(?: \d+)*|waits ec \d+|[A-Z][A-Za-z]+\.[a-z]+(?: (?:cap|target|object|ec|processor|source|sm) \d+)+)")
+FLOW = re.compile(r"flow [A-Za-z0-9_-]+ (own(?: \d+)* at work (?:to the end|until turn \d+: ec \d+ (?:creates|gives|revokes))|waits ec \d+|[A-Z][A-Za-z]+\.[a-z]+(?: (?:cap|target|object|ec|processor|source|sm) \d+)+)")
 
 
 @dataclass(frozen=True, slots=True)
@@ -72,8 +74,8 @@ class Link:
 
 @dataclass(slots=True)
 class Told:
-    """What is told: the verdict with what shows it, what trusted domains are that aren't at rest, the sides to which those named are joined or the tie for which there are none, the sides that may take
-    turns of each processor, and all ties."""
+    """What is told: the verdict with what shows it, what trusted domains are, the sides to which those named are joined or the tie for which there are none, the semaphores that they share on purpose, the memory
+    that flows from one to another, the sides that may take turns of each processor, and all ties."""
 
     turn: int
     verdict: str
@@ -84,6 +86,8 @@ class Told:
     stuck: Tie | None = None
     trusted: tuple[int, ...] = ()
     sides: dict[str, tuple[int, ...]] = field(default_factory=dict)
+    shared: list[int] = field(default_factory=list)
+    flows: list[Tie] = field(default_factory=list)
     processors: list[tuple[str, ...]] = field(default_factory=list)
     ties: list[Tie] = field(default_factory=list)
 
@@ -104,6 +108,14 @@ def read_tie(text: str, line: int) -> Tie:
     return Tie(source, target, cause, tuple(map(int, rest[1::2])), strict)
 
 
+def read_flow(text: str, line: int) -> Tie:
+    """Memory that flows from one side to another: a tie by frames, but for that."""
+    tie = read_tie(text, line)
+    if tie.cause != "frames" or tie.strict or TRUSTED in (tie.source.side, tie.target.side) or tie.source.side == tie.target.side:
+        raise Fault(line, "this is no memory that flows")
+    return tie
+
+
 def read_line(told: Told, text: str, line: int) -> None:
     """What a line behind the first tells."""
     word, _, rest = text.partition(" ")
@@ -118,6 +130,10 @@ def read_line(told: Told, text: str, line: int) -> None:
         told.verdict = told.verdict or word
     elif word == "tie":
         told.ties.append(read_tie(rest, line))
+    elif word == "flows":
+        told.flows.append(read_flow(rest, line))
+    elif (shared := SHARED.fullmatch(text)) is not None:
+        told.shared.append(int(shared[1]))
     elif FLOW.fullmatch(text) is not None:
         return  # not drawn
     elif (role := ROLE.fullmatch(text)) is not None and told.verdict == "served":

@@ -16,6 +16,7 @@ alike_itself k S P = record {
   ticks = λ n p. refl;
   deadlines = λ n p. refl;
   spaces = λ kind pd place s. refl;
+  origins = λ kind pd place from s t. refl;
   frames = λ pd page to s leads. refl;
   size = refl;
 }

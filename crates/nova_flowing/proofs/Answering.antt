@@ -1,22 +1,25 @@
 -- A premise holds exactly where no part of it fails.
 use Rattle.std.proofs.Common.{◌≡◌, ◌⊎◌, ◌≤◌, ℕ, List, [], ◌∷◌, zero, suc, refl, sym, ap, subst, inl, inr, arith}
-use Rattle.std.specs.Prelude.{◌&&◌, Bool, true, false, find, is_some, length, slice_get, Option, Some, None, option_map}
+use Rattle.std.specs.Prelude.{◌&&◌, Bool, true, false, not, find, is_some, length, slice_get, Option, Some, None, option_map}
 use Rattle.std.specs.List.{AllByRecursion, enumerate_from}
 use Rattle.std.specs.Option.{option_or}
 use Rattle.nova_objects.specs.declared.object.Object.{Object}
 use Rattle.nova_objects.specs.declared.object.Object.TheVariants.{Pd, Ec, Sc, Pt, Sm}
-use Rattle.nova_model.specs.State.{KernelState, context_at}
+use Rattle.nova_model.specs.State.{KernelState, context_at, deadline_of}
+use Rattle.nova_model.specs.Times.{until_due}
 use Rattle.nova_model.specs.declared.context.EcState.{EcState}
 use Rattle.nova_model.specs.declared.delegation.Derivation.{Derivation}
 use Rattle.nova_model.specs.declared.times.Alarm.{Alarm}
 use Rattle.law_forest.proofs.Members.{found_in, none_found}
 use Rattle.law_isolation.specs.Sound.{IsSound}
+use Rattle.law_integrity.specs.Confined.{IsIdle, Of}
 use Rattle.law_integrity.proofs.Labels.{context_ec}
+use Rattle.law_sides.specs.Resting.{is_nothing}
 use Rattle.law_sides.proofs.Lists.{numbered_at}
-use Rattle.std.proofs.lemmas.Bool.{and_parts}
+use Rattle.std.proofs.lemmas.Bool.{and_parts, false_from_ne_true, not-true}
 use Rattle.nova_flowing.specs.Leaks.{alarms_of, leak_at, leak_by, leak_of}
 use Rattle.nova_flowing.specs.Premises.{Holds, IsDecided, IsOf, IsWaiting, fails, first_failing, first_waiting, home_of, is_blocked, is_waiting, leak_of_premise, others_of, own_of, part_of, unless_failing, unless_waiting, verdict_of, waits_in}
-use Rattle.nova_flowing.specs.Tests.{blocked_at, is_in, is_of_neither}
+use Rattle.nova_flowing.specs.Tests.{blocked_at, is_in, is_of_neither, is_quiet}
 use Rattle.nova_flowing.specs.declared.deciding.Verdict.{Verdict}
 use Rattle.nova_flowing.specs.declared.deciding.Verdict.TheVariants.{Fails, Own, Waits}
 use Rattle.nova_flowing.specs.declared.division.Division.{Division}
@@ -27,7 +30,8 @@ use Rattle.nova_flowing.proofs.Apart.{apart_none, none_at, none_by}
 use Rattle.nova_flowing.proofs.Side.{side_at_none, side_by, side_none}
 use Rattle.nova_flowing.proofs.Guarded.{guarded_at_none, guarded_by, guarded_none}
 use Rattle.nova_flowing.proofs.Divided.{divided_at_none, divided_by, divided_none, divided_of_none}
-use Rattle.nova_flowing.proofs.Reflecting.{first_none, blocked_is, none_both, none_first, none_left, none_right}
+use Rattle.nova_flowing.proofs.Quiet.{idle_early, idle_endless}
+use Rattle.nova_flowing.proofs.Reflecting.{first_none, blocked_is, neither, none_both, none_first, none_left, none_right}
 
 -- of a table that isn't longer than the objects, each number is of one
 there_in : (xs : List Object) (table : List Bool) (n : ℕ) → length table ≤ length xs → is_in table n ≡ true → (o : Object) × (slice_get xs n ≡ Some o)
@@ -73,8 +77,9 @@ module _ (k : KernelState) (v : Division) (of : IsOf k v) (sound : IsSound k) wh
       let all = all_none Divided none in
       divided_none k (own_of v) (others_of v) (part_of v) (home_of v) (record { by = all.by; at = all.at; of = all.of_alarms })
 
-  -- nobody of neither is blocked
-  free_of : find (is_waiting k v) (enumerate_from 0 k.objects) ≡ None → (n : ℕ) (x : EcState) → context_at k n ≡ Some x → (is_of_neither k (own_of v) (others_of v) n && is_blocked (blocked_at x.state)) ≡ false
+  -- nobody of neither is blocked where something is to come
+  free_of : find (is_waiting k v) (enumerate_from 0 k.objects) ≡ None → (n : ℕ) (x : EcState) → context_at k n ≡ Some x →
+      (is_of_neither k (own_of v) (others_of v) n && (is_blocked (blocked_at x.state) && not (is_nothing (until_due k.times x.cpu)))) ≡ false
   free_of none n x there =
       let m = context_ec k n sound.kept.tables (ap (λ (o : Option EcState). is_some o) there) in
       let off : waits_in k v n (context_at k n) ≡ false =
@@ -82,16 +87,34 @@ module _ (k : KernelState) (v : Division) (of : IsOf k v) (sound : IsSound k) wh
       (none_found (is_waiting k v) (enumerate_from 0 k.objects) (ap (λ (o : Option (ℕ × Object)). is_some o) none)) m.object in
       subst (λ (o : Option EcState). waits_in k v n o ≡ false) there off
 
-  pub apart_holds : leak_of_premise k v Apart ≡ None → find (is_waiting k v) (enumerate_from 0 k.objects) ≡ None → Holds k v Apart
-  apart_holds none free =
+  early_of : find (is_waiting k v) (enumerate_from 0 k.objects) ≡ None → (n : ℕ) (x : EcState) → context_at k n ≡ Some x → is_of_neither k (own_of v) (others_of v) n ≡ true →
+      (is_blocked (blocked_at x.state) && not (is_nothing (until_due k.times x.cpu))) ≡ false
+  early_of none n x there out =
+      false_from_ne_true (is_blocked (blocked_at x.state) && not (is_nothing (until_due k.times x.cpu)))
+      (neither (is_of_neither k (own_of v) (others_of v) n) (is_blocked (blocked_at x.state) && not (is_nothing (until_due k.times x.cpu))) (free_of none n x there) out)
+
+  -- who is quiet is idle
+  abbrev AreIdle : Type 0
+  AreIdle = (n : ℕ) (x : EcState) → context_at k n ≡ Some x → is_of_neither k (own_of v) (others_of v) n ≡ true → is_quiet k (own_of v) (others_of v) x.state ≡ true →
+      IsIdle k (Of (own_of v)) (Of (others_of v)) n x.state
+
+  apart_if : leak_of_premise k v Apart ≡ None → AreIdle → Holds k v Apart
+  apart_if none idle =
       let all = all_none Apart none in
       apart_none k (own_of v) (others_of v) sound.kept.tables (record {
         by = all.by;
         at = all.at;
         own = λ n s. there_in k.objects v.own.items n of.own s;
         others = λ n t. there_in k.objects v.others.items n of.others t;
-        free = free_of free;
+        idle = idle;
       })
+
+  pub apart_holds : leak_of_premise k v Apart ≡ None → find (is_waiting k v) (enumerate_from 0 k.objects) ≡ None → Holds k v Apart
+  apart_holds none free = apart_if none (λ n x there out quiet. idle_early k (own_of v) (others_of v) sound n x there quiet (early_of free n x there out))
+
+  -- or where it has no deadline
+  endless_holds : leak_of_premise k v Apart ≡ None → ((n : ℕ) → is_of_neither k (own_of v) (others_of v) n ≡ true → deadline_of k.times n ≡ None) → Holds k v Apart
+  endless_holds none endless = apart_if none (λ n x there out quiet. idle_endless k (own_of v) (others_of v) sound n x there quiet (endless n out))
 
   -- WHERE A PREMISE HOLDS, NO PART FAILS
 
@@ -168,9 +191,10 @@ module _ (k : KernelState) (v : Division) (of : IsOf k v) (sound : IsSound k) wh
       by_entry : (o : Option EcState) → context_at k n ≡ o → waits_in k v n o ≡ true → IsWaiting k v n
       by_entry None at h = absurd (cc)
       by_entry (Some x) at h =
-          let parts = and_parts (is_of_neither k (own_of v) (others_of v) n) (is_blocked (blocked_at x.state)) h in
-          let its = semaphore (blocked_at x.state) parts.1 in
-          record { neither = parts.0; context = x; there = at; sm = its.0; blocked = blocked_is x.state its.0 its.1 }
+          let parts = and_parts (is_of_neither k (own_of v) (others_of v) n) (is_blocked (blocked_at x.state) && not (is_nothing (until_due k.times x.cpu))) h in
+          let rest = and_parts (is_blocked (blocked_at x.state)) (not (is_nothing (until_due k.times x.cpu))) parts.1 in
+          let its = semaphore (blocked_at x.state) rest.0 in
+          record { neither = parts.0; context = x; there = at; sm = its.0; blocked = blocked_is x.state its.0 its.1; comes = not-true (is_nothing (until_due k.times x.cpu)) rest.1 }
 
   first_waits : (o : Option (ℕ × Object)) (n : ℕ) → find (is_waiting k v) (enumerate_from 0 k.objects) ≡ o → option_map (λ (e : ℕ × Object). e.0) o ≡ Some n → IsWaiting k v n
   first_waits None n found is = absurd (cc)
@@ -185,7 +209,7 @@ module _ (k : KernelState) (v : Division) (of : IsOf k v) (sound : IsSound k) wh
       → leak_of_premise k v Guarded ≡ None → leak_of_premise k v Divided ≡ None → IsDecided k v (Waits n)
   waits n is apart side guarded divided = record {
     waits = first_waits (find (is_waiting k v) (enumerate_from 0 k.objects)) n refl is;
-    apart = apart;
+    apart = endless_holds apart;
     side = side_holds side;
     guarded = guarded_holds guarded;
     divided = divided_holds divided;

@@ -1,4 +1,4 @@
--- Being apart: no part of it fails exactly where it holds, and nobody of neither is blocked.
+-- Being apart: no part of it fails exactly where it holds, if who is quiet is idle.
 use Rattle.std.proofs.Common.{◌≡◌, ◌⊎◌, ℕ, refl, sym, ap, ◌∙◌, inl, inr}
 use Rattle.std.specs.Prelude.{◌==◌, ◌&&◌, ◌||◌, Bool, true, false, not, is_some, Contains, slice_get, Option, Some, None, option_and_then}
 use Rattle.std.specs.List.{AllByRecursion, enumerate_from, list_any}
@@ -9,7 +9,7 @@ use Rattle.nova_model.specs.Edges.{edge_of}
 use Rattle.nova_model.specs.State.{KernelState, context, context_at}
 use Rattle.nova_model.specs.declared.context.EcState.{EcState}
 use Rattle.nova_model.specs.declared.context.State.{State}
-use Rattle.nova_model.specs.declared.context.State.TheVariants.{Blocked, Dead, Granting, Parked}
+use Rattle.nova_model.specs.declared.context.State.TheVariants.{Blocked, Granting}
 use Rattle.nova_model.specs.declared.delegation.Derivation.{Derivation}
 use Rattle.law_forest.proofs.Members.{IsIn, all_at, all_from, contains_from_in, in_from_contains}
 use Rattle.law_turns.specs.Tables.{HasTables}
@@ -17,12 +17,12 @@ use Rattle.law_integrity.specs.Confined.{AreSetsApart, IsClosed, IsIdle, IsMembe
 use Rattle.law_integrity.proofs.Labels.{context_ec}
 use Rattle.law_sides.proofs.Lists.{in_numbered, numbered_at}
 use Rattle.nova_flowing.specs.Leaks.{apart_at, apart_in, at_cap, at_context, leak_at, leak_by}
-use Rattle.nova_flowing.specs.Premises.{is_blocked}
 use Rattle.nova_flowing.specs.Tests.{blocked_at, first_of, gives_without, holds, is_blocked_at, is_domain, is_foreign, is_held, is_member, is_of, is_of_neither, is_owned, is_quiet, is_some_with, queues_of, stirs, waits_at_theirs, waits_beside, waits_from_without}
 use Rattle.nova_flowing.specs.declared.leak.Field.TheVariants as field
 use Rattle.nova_flowing.specs.declared.leak.Place.TheVariants.{Object as AtObject}
 use Rattle.nova_flowing.specs.declared.leak.Premise.TheVariants.{Apart}
 use Rattle.nova_flowing.proofs.Finding.{numbered_here}
+use Rattle.nova_flowing.proofs.Quiet.{quiet_from}
 use Rattle.nova_flowing.proofs.Reflecting.{any_found, blocked_is, context_here, edge_here, first_is, first_is_given, found_any, held_is, held_on, here_context, here_edge, holds_is, holds_on, member_is, member_on, neither, none_both, none_left, none_right, not_both, off_if, off_unless, off_when, owned_is, owned_on, second_is, some_with, when_off, with_some}
 
 -- what is a domain
@@ -81,12 +81,6 @@ closed_off k S off = record {
       (some_with (λ (n : ℕ). not (S n)) (first_of here.x.state) new (ap first_of here.is) (not_from_false (S new) out)));
 }
 
-idle_off : (k : KernelState) (S T : ℕ → Type 0) (n : ℕ) (s : State) → is_quiet s ≡ true → is_blocked (blocked_at s) ≡ false → IsIdle k S T n s
-idle_off k S T n Parked quiet free = tt
-idle_off k S T n Dead quiet free = tt
-idle_off k S T n (Blocked sm) quiet free = absurd (cc)
-idle_off k S T n other quiet free = absurd (cc)
-
 module _ (k : KernelState) (S T : ℕ → Bool) (tables : HasTables k) where
   -- of an execution context none of these fails
   record AreCalm (n : ℕ) (s : State) : Type 0 where
@@ -124,7 +118,7 @@ module _ (k : KernelState) (S T : ℕ → Bool) (tables : HasTables k) where
     pub at : AllByRecursion (λ (e : ℕ × Object). leak_at k S T S S Apart e ≡ None) (enumerate_from 0 k.objects)
     pub own : (n : ℕ) → S n ≡ true → (o : Object) × (slice_get k.objects n ≡ Some o)
     pub others : (n : ℕ) → T n ≡ true → (o : Object) × (slice_get k.objects n ≡ Some o)
-    pub free : (n : ℕ) (x : EcState) → context_at k n ≡ Some x → (is_of_neither k S T n && is_blocked (blocked_at x.state)) ≡ false
+    pub idle : (n : ℕ) (x : EcState) → context_at k n ≡ Some x → is_of_neither k S T n ≡ true → is_quiet k S T x.state ≡ true → IsIdle k (Of S) (Of T) n x.state
 
   module _ (none : AreNone) where
     by_off : (d : Derivation) → Contains k.delegations.list d → leak_by k S T S Apart d ≡ None
@@ -170,12 +164,7 @@ module _ (k : KernelState) (S T : ℕ → Bool) (tables : HasTables k) where
         by_tests false one true two = inr (inr (member_is k T ec two))
         by_tests false one false two =
             let out : is_of_neither k S T ec ≡ true = and_from (not (is_member k S ec)) (not (is_member k T ec)) (not_from_false (is_member k S ec) one) (not_from_false (is_member k T ec) two) in
-            let quiet = second_is (is_of_neither k S T ec) (is_quiet x.state) (calm ec x there).stirs out in
-            inl (idle_off k (Of S) (Of T) ec x.state quiet (unblocked (is_blocked (blocked_at x.state)) refl out))
-          where
-            unblocked : (c : Bool) → is_blocked (blocked_at x.state) ≡ c → is_of_neither k S T ec ≡ true → c ≡ false
-            unblocked false is out = refl
-            unblocked true is out = absurd (neither (is_of_neither k S T ec) (is_blocked (blocked_at x.state)) (none.free ec x there) out is)
+            inl (none.idle ec x there out (second_is (is_of_neither k S T ec) (is_quiet k S T x.state) (calm ec x there).stirs out))
 
     wait_off : (U V : ℕ → Bool) → ((n : ℕ) (x : EcState) → context_at k n ≡ Some x → waits_at_theirs k U V n x.state ≡ false) → WaitsApart k (Of U) (Of V)
     wait_off U V off n sm is m h =
@@ -214,12 +203,6 @@ module _ (k : KernelState) (S T : ℕ → Bool) (tables : HasTables k) where
 
 -- WHERE IT HOLDS, NONE FAILS
 
-idle_quiet : (k : KernelState) (S T : ℕ → Type 0) (n : ℕ) (s : State) → IsIdle k S T n s → is_quiet s ≡ true
-idle_quiet k S T n Parked idle = refl
-idle_quiet k S T n Dead idle = refl
-idle_quiet k S T n (Blocked sm) idle = refl
-idle_quiet k S T n other idle = absurd idle
-
 module _ (k : KernelState) (S : ℕ → Bool) (closed : IsClosed k (Of S)) where
   foreign_no : (d : Derivation) → IsIn k.delegations.list d → is_foreign k S d ≡ false
   foreign_no d i = off_unless (is_held S d) (is_owned k S d.target (slice_get k.objects d.target)) (λ held.
@@ -243,12 +226,12 @@ theirs_no k U V apart n x at = off_if (is_member k U n) (is_some_with (holds k.d
 
 module _ (k : KernelState) (S T : ℕ → Bool) (apart : AreSetsApart k (Of S) (Of T)) where
   stirs_no : (n : ℕ) (x : EcState) → context_at k n ≡ Some x → stirs k S T n x.state ≡ false
-  stirs_no n x at = off_unless (is_of_neither k S T n) (is_quiet x.state) (λ out.
+  stirs_no n x at = off_unless (is_of_neither k S T n) (is_quiet k S T x.state) (λ out.
       let outs = and_parts (not (is_member k S n)) (not (is_member k T n)) out in
       by_rest outs.0 outs.1 (apart.separate.rest n x at))
     where
-      by_rest : not (is_member k S n) ≡ true → not (is_member k T n) ≡ true → IsIdle k (Of S) (Of T) n x.state ⊎ (IsMember k (Of S) n ⊎ IsMember k (Of T) n) → is_quiet x.state ≡ true
-      by_rest one two (inl idle) = idle_quiet k (Of S) (Of T) n x.state idle
+      by_rest : not (is_member k S n) ≡ true → not (is_member k T n) ≡ true → IsIdle k (Of S) (Of T) n x.state ⊎ (IsMember k (Of S) n ⊎ IsMember k (Of T) n) → is_quiet k S T x.state ≡ true
+      by_rest one two (inl idle) = quiet_from k S T n x.state idle
       by_rest one two (inr (inl m)) = absurd (not_both (is_member k S n) (member_on k S n m) (not-true (is_member k S n) one))
       by_rest one two (inr (inr m)) = absurd (not_both (is_member k T n) (member_on k T n m) (not-true (is_member k T n) two))
 

@@ -2,6 +2,7 @@ mod Ranges
 mod Reflecting
 mod Finding
 mod Lineages
+mod Quiet
 mod Apart
 mod Side
 mod Guarded
@@ -10,3 +11,4 @@ mod Answering
 mod Alike
 mod Numbered
 mod Telling
+mod Weaker

@@ -28,7 +28,7 @@ use Rattle.nova_flowing.proofs.Apart.{blocked_here, is_blocked_there}
 use Rattle.nova_flowing.proofs.Finding.{numbered_here}
 use Rattle.nova_flowing.proofs.Reflecting.{any_found, blocked_is, caller_here, caller_is, edge_here, found_any, held_is, held_on, here_edge, here_state, neither, none_both, none_left, none_right, not_both, off_if, off_unless, off_when, second_is, some_with, state_here, when_off, with_some}
 
--- one of the part has nobody who isn't
+-- a context of the part has none that isn't of it
 pub kept_in : (P : ℕ → Bool) (n m : ℕ) (o : Option ℕ) → (P n && is_without P o) ≡ false → P n ≡ true → o ≡ Some m → P m ≡ true
 kept_in P n m o off p is = true_from_ne_false (P m) (λ out. neither (P n) (is_without P o) off p (some_with (λ (i : ℕ). not (P i)) o m is (not_from_false (P m) out)))
 

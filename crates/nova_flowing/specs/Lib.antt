@@ -4,4 +4,5 @@ pub mod Tests
 pub mod Leaks
 pub mod Premises
 pub mod Tables
+pub mod Working
 pub mod Lines

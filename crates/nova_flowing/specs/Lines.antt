@@ -1,4 +1,4 @@
--- Lines that tell of each side whether the premises hold.
+-- Lines that tell of each side whether the premises hold, and until when it is at work.
 use Rattle.std.specs.Prelude.{ℕ, ◌==◌, ◌&&◌, Bool, false, not, if◌then◌else◌, List, [], ◌++◌, codes, decimal, flat_map, Option, Some, None}
 use Rattle.std.specs.List.{enumerate_from, position, range_with_len}
 use Rattle.nova_model.specs.State.{KernelState}
@@ -7,8 +7,12 @@ use Rattle.nova_naming.specs.Labels.{side_text}
 use Rattle.nova_naming.specs.Statements.{Stated}
 use Rattle.nova_flowing.specs.Premises.{verdict_by}
 use Rattle.nova_flowing.specs.Tables.{home_by, others_by, own_by, part_by}
+use Rattle.nova_flowing.specs.Working.{first_lapse}
 use Rattle.nova_flowing.specs.declared.deciding.Verdict.{Verdict}
 use Rattle.nova_flowing.specs.declared.deciding.Verdict.TheVariants.{Own, Waits, Fails}
+use Rattle.nova_flowing.specs.declared.lapse.Lapse.{Lapse}
+use Rattle.nova_flowing.specs.declared.lapse.LapseKind.{LapseKind}
+use Rattle.nova_flowing.specs.declared.lapse.LapseKind.TheVariants.{Creates, Gives, Revokes}
 use Rattle.nova_flowing.specs.declared.leak.Field.{Field}
 use Rattle.nova_flowing.specs.declared.leak.Field.TheVariants as field
 use Rattle.nova_flowing.specs.declared.leak.Place.{Place}
@@ -57,10 +61,20 @@ home_text C cpu = if C cpu then codes " " ++ decimal cpu else []
 abbrev pub homes_text : (ℕ → Bool) → ℕ → List ℕ
 homes_text C cpus = flat_map (home_text C) (range_with_len 0 cpus)
 
-abbrev pub verdict_text : (ℕ → Bool) → ℕ → Verdict → List ℕ
-verdict_text C cpus Own = codes " own" ++ (homes_text C cpus ++ line_feed)
-verdict_text C cpus (Waits ec) = codes " waits ec " ++ (decimal ec ++ line_feed)
-verdict_text C cpus (Fails premise leak) = codes " " ++ (field_word leak.field ++ place_text leak.place)
+-- until when it is at work
+abbrev pub lapse_text : ℕ → ℕ → LapseKind → List ℕ
+lapse_text turn ec Creates = codes " at work until turn " ++ (decimal turn ++ (codes ": ec " ++ (decimal ec ++ (codes " creates" ++ line_feed))))
+lapse_text turn ec Gives = codes " at work until turn " ++ (decimal turn ++ (codes ": ec " ++ (decimal ec ++ (codes " gives" ++ line_feed))))
+lapse_text turn ec Revokes = codes " at work until turn " ++ (decimal turn ++ (codes ": ec " ++ (decimal ec ++ (codes " revokes" ++ line_feed))))
+
+abbrev pub work_text : Option Lapse → List ℕ
+work_text None = codes " at work to the end" ++ line_feed
+work_text (Some l) = lapse_text l.turn l.ec l.kind
+
+abbrev pub verdict_text : (ℕ → Bool) → ℕ → Option Lapse → Verdict → List ℕ
+verdict_text C cpus lapse Own = codes " own" ++ (homes_text C cpus ++ work_text lapse)
+verdict_text C cpus lapse (Waits ec) = codes " waits ec " ++ (decimal ec ++ line_feed)
+verdict_text C cpus lapse (Fails premise leak) = codes " " ++ (field_word leak.field ++ place_text leak.place)
 
 -- each side in a line, by the least number of its domains
 abbrev pub is_place : ℕ → Option ℕ → Bool
@@ -76,11 +90,12 @@ begins_side labels n label = not (label == 0) && is_place n (position (has_label
 abbrev pub verdict_at : KernelState → List ℕ → ℕ → Verdict
 verdict_at k labels label = verdict_by k (own_by labels label) (others_by labels label) (part_by k labels label) (home_by k labels label)
 
-abbrev pub flow_text : List Stated → KernelState → List ℕ → ℕ → List ℕ
-flow_text policy k labels label = codes "flow " ++ (side_text policy label ++ verdict_text (home_by k labels label) k.cpus (verdict_at k labels label))
+abbrev pub flow_text : List Stated → KernelState → List Lapse → List ℕ → ℕ → List ℕ
+flow_text policy k lapses labels label =
+    codes "flow " ++ (side_text policy label ++ verdict_text (home_by k labels label) k.cpus (first_lapse (own_by labels label) lapses) (verdict_at k labels label))
 
-abbrev pub flow_line : List Stated → KernelState → List ℕ → ℕ × ℕ → List ℕ
-flow_line policy k labels (n, label) = if begins_side labels n label then flow_text policy k labels label else []
+abbrev pub flow_line : List Stated → KernelState → List Lapse → List ℕ → ℕ × ℕ → List ℕ
+flow_line policy k lapses labels (n, label) = if begins_side labels n label then flow_text policy k lapses labels label else []
 
-abbrev pub flow_lines : List Stated → KernelState → List ℕ → List ℕ
-flow_lines policy k labels = flat_map (flow_line policy k labels) (enumerate_from 0 labels)
+abbrev pub flow_lines : List Stated → KernelState → List Lapse → List ℕ → List ℕ
+flow_lines policy k lapses labels = flat_map (flow_line policy k lapses labels) (enumerate_from 0 labels)

@@ -1,15 +1,17 @@
 -- What is decided of a side among others, in one state: whether the premises of noninterference on divided processors hold.
-use Rattle.std.specs.Prelude.{◌≡◌, ◌≤◌, ℕ, ◌&&◌, Bool, true, false, find, length, option_map, Option, Some, None}
+use Rattle.std.specs.Prelude.{◌≡◌, ◌≤◌, ℕ, ◌&&◌, Bool, true, false, not, find, length, option_map, Option, Some, None}
 use Rattle.std.specs.Option.{option_or}
 use Rattle.std.specs.List.{enumerate_from}
 use Rattle.nova_objects.specs.declared.object.Object.{Object}
 use Rattle.nova_objects.specs.declared.object.Object.TheVariants.{Ec}
-use Rattle.nova_model.specs.State.{KernelState, context_at}
+use Rattle.nova_model.specs.State.{KernelState, context_at, deadline_of}
+use Rattle.nova_model.specs.Times.{until_due}
 use Rattle.nova_model.specs.declared.context.EcState.{EcState}
 use Rattle.nova_model.specs.declared.context.State.TheVariants.{Blocked}
 use Rattle.law_integrity.specs.Confined.{AreSetsApart, Of}
 use Rattle.law_flow.specs.Flow.{IsGuarded, IsPartitioned, IsSide}
 use Rattle.law_flow.specs.Processors.{IsDivided}
+use Rattle.law_sides.specs.Resting.{is_nothing}
 use Rattle.nova_flowing.specs.Tests.{blocked_at, is_in, is_of_neither}
 use Rattle.nova_flowing.specs.Leaks.{leak_in}
 use Rattle.nova_flowing.specs.declared.leak.Leak.{Leak}
@@ -60,13 +62,13 @@ fails_by k S T P C p = option_map (failing p) (leak_in k S T P C p)
 abbrev pub first_failing_by : KernelState → (ℕ → Bool) → (ℕ → Bool) → (ℕ → Bool) → (ℕ → Bool) → Option Verdict
 first_failing_by k S T P C = option_or (fails_by k S T P C Apart) (option_or (fails_by k S T P C Side) (option_or (fails_by k S T P C Guarded) (fails_by k S T P C Divided)))
 
--- an execution context of neither is blocked: a deadline may end that, which nobody reads
+-- an execution context of neither is blocked, and something is to come on its processor: perhaps a deadline of its, which nobody reads
 abbrev pub is_blocked : Option ℕ → Bool
 is_blocked (Some sm) = true
 is_blocked None = false
 
 abbrev pub waits_by : KernelState → (ℕ → Bool) → (ℕ → Bool) → ℕ → Option EcState → Bool
-waits_by k S T n (Some x) = is_of_neither k S T n && is_blocked (blocked_at x.state)
+waits_by k S T n (Some x) = is_of_neither k S T n && (is_blocked (blocked_at x.state) && not (is_nothing (until_due k.times x.cpu)))
 waits_by k S T n None = false
 
 abbrev pub is_waiting_by : KernelState → (ℕ → Bool) → (ℕ → Bool) → ℕ × Object → Bool
@@ -117,16 +119,17 @@ pub record IsWaiting (k : KernelState) (v : Division) (n : ℕ) : Type 0 where
   pub there : context_at k n ≡ Some context
   pub sm : ℕ
   pub blocked : context.state ≡ Blocked sm
+  pub comes : is_nothing (until_due k.times context.cpu) ≡ false
 
 -- the first leak of a premise, which doesn't hold
 pub record IsFailing (k : KernelState) (v : Division) (p : Premise) (l : Leak) : Type 0 where
   pub first : leak_of_premise k v p ≡ Some l
   pub fails : Holds k v p → ⊥
 
--- all hold, but that a deadline may end the wait of one of neither
+-- all hold, but that a deadline may end the wait of one of neither: they do where none of neither has a deadline
 pub record AreMetBut (k : KernelState) (v : Division) (ec : ℕ) : Type 0 where
   pub waits : IsWaiting k v ec
-  pub apart : leak_of_premise k v Apart ≡ None
+  pub apart : ((n : ℕ) → is_of_neither k (own_of v) (others_of v) n ≡ true → deadline_of k.times n ≡ None) → Holds k v Apart
   pub side : Holds k v Side
   pub guarded : Holds k v Guarded
   pub divided : Holds k v Divided

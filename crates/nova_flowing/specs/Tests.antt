@@ -1,5 +1,5 @@
 -- What premises ask of one capability or one execution context, as tests. `S` says which domains are a side's, `T` which are the others'.
-use Rattle.std.specs.Prelude.{ℕ, ◌==◌, ◌&&◌, Bool, true, false, not, List, slice_get, Option, Some, None}
+use Rattle.std.specs.Prelude.{ℕ, ◌==◌, ◌&&◌, ◌||◌, Bool, true, false, not, List, slice_get, Option, Some, None}
 use Rattle.std.specs.List.{enumerate_from, list_any}
 use Rattle.nova_objects.specs.declared.object.Object.{Object}
 use Rattle.nova_objects.specs.declared.object.Object.TheVariants.{Pd, Ec, Sc, Pt}
@@ -14,6 +14,7 @@ use Rattle.nova_model.specs.declared.context.Mark.{Mark}
 use Rattle.nova_model.specs.declared.context.State.{State}
 use Rattle.nova_model.specs.declared.context.State.TheVariants.{Blocked, Dead, Granting, Parked}
 use Rattle.nova_model.specs.declared.delegation.Derivation.{Derivation}
+use Rattle.law_sides.specs.Resting.{is_unraised, is_unrung}
 use Rattle.law_sides.specs.Tied.{meets}
 
 -- what a table has of a number: false beyond it
@@ -105,18 +106,24 @@ waits_from_without k S n state = not (is_member k S n) && is_some_with (is_membe
 abbrev pub gives_without : KernelState → (ℕ → Bool) → ℕ → State → Bool
 gives_without k S n state = is_member k S n && is_some_with (λ (new : ℕ). not (S new)) (first_of state)
 
--- it does nothing, but for who may be woken
-abbrev pub is_quiet : State → Bool
-is_quiet Parked = true
-is_quiet Dead = true
-is_quiet (Blocked sm) = true
-is_quiet other = false
+-- it does nothing, and but for a deadline of its nothing has it do something: it is parked or dead, or blocked at a semaphore that neither set may raise and no alarm rings
+abbrev pub is_either : (ℕ → Bool) → (ℕ → Bool) → ℕ → Bool
+is_either S T n = S n || T n
+
+abbrev pub is_left_alone : KernelState → (ℕ → Bool) → (ℕ → Bool) → ℕ → Bool
+is_left_alone k S T sm = is_unraised (is_either S T) k.delegations.list sm && is_unrung k.times sm
+
+abbrev pub is_quiet : KernelState → (ℕ → Bool) → (ℕ → Bool) → State → Bool
+is_quiet k S T Parked = true
+is_quiet k S T Dead = true
+is_quiet k S T (Blocked sm) = is_left_alone k S T sm
+is_quiet k S T other = false
 
 abbrev pub is_of_neither : KernelState → (ℕ → Bool) → (ℕ → Bool) → ℕ → Bool
 is_of_neither k S T n = not (is_member k S n) && not (is_member k T n)
 
 abbrev pub stirs : KernelState → (ℕ → Bool) → (ℕ → Bool) → ℕ → State → Bool
-stirs k S T n state = is_of_neither k S T n && not (is_quiet state)
+stirs k S T n state = is_of_neither k S T n && not (is_quiet k S T state)
 
 -- one of S waits at a semaphore that T holds
 abbrev pub waits_at_theirs : KernelState → (ℕ → Bool) → (ℕ → Bool) → ℕ → State → Bool

@@ -4,8 +4,9 @@ ghost use Rattle.std.specs.List.{list_any};
 ghost use Rattle.nova_range.specs.Rights.{allows};
 ghost use Rattle.nova_model.specs.Delegations.{parent_of, with_id};
 ghost use Rattle.nova_model.specs.Lines.{line};
+ghost use Rattle.law_sides.specs.Resting.{is_unraised, raises};
 ghost use Rattle.law_sides.specs.Tied.{leads_to, meets};
-ghost use Rattle.nova_flowing.specs.Tests.{holds, is_creator, is_derived, is_foreign, is_in, is_outside, is_shared, is_written, leads_there, writes_to};
+ghost use Rattle.nova_flowing.specs.Tests.{holds, is_creator, is_derived, is_either, is_foreign, is_in, is_outside, is_shared, is_written, leads_there, writes_to};
 
 use crate::tables::{is_domain, is_held, is_in, is_memory, is_owned};
 use bitflags::Flags;
@@ -22,6 +23,21 @@ pub(crate) fn holds(list: &[Derivation], set: &[bool], object: u32) -> bool
     ensures { result ≡ holds list.now (is_in set.now) object }
 {
     list.iter().any(|&d| leads_there(set, object, d))
+}
+
+/// Whether a capability of two sets may raise a semaphore.
+fn may_raise(own: &[bool], others: &[bool], sm: u32, d: Derivation) -> bool
+    ensures { result ≡ (raises sm d && is_either (is_in own.now) (is_in others.now) d.pd) }
+{
+    let raises = !is_memory(d.kind) && d.target == sm && d.rights.contains(Rights::UP);
+    raises && (is_in(own, d.pd) || is_in(others, d.pd))
+}
+
+/// Whether none of theirs may.
+pub(crate) fn is_unraised(list: &[Derivation], own: &[bool], others: &[bool], sm: u32) -> bool
+    ensures { result ≡ is_unraised (is_either (is_in own.now) (is_in others.now)) list.now sm }
+{
+    list.iter().all(|&d| !may_raise(own, others, sm, d))
 }
 
 /// Whether a capability leads to what isn't its set's own.

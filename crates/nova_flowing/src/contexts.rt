@@ -3,9 +3,10 @@ ghost use Rattle.std.specs.Prelude.{◌≡◌, ◌==◌, ◌&&◌, ◌||◌, ◌
 ghost use Rattle.std.specs.List.{enumerate_from, list_any};
 ghost use Rattle.nova_model.specs.Edges.{edge_of};
 ghost use Rattle.nova_model.specs.State.{context_at};
+ghost use Rattle.law_sides.specs.Resting.{is_unrung};
 ghost use Rattle.nova_flowing.specs.Tests.{blocked_at, caller_of, first_of, gives_without, holds, is_awaited_without, is_blocked_at, is_in, is_member, is_of_neither, is_quiet, is_some_with, is_without, queues_of, queues_without, stirs, waits_at_theirs, waits_beside, waits_from_without};
 
-use crate::capabilities::holds;
+use crate::capabilities::{holds, is_unraised};
 use crate::tables::{is_in, is_member, is_of};
 use nova_kernel::{Derivation, Kernel, Mark, Object, State};
 
@@ -83,10 +84,28 @@ pub(crate) fn gives_without(kernel: &Kernel, set: &[bool], n: u32, state: State)
     is_member(kernel, set, n) && is_without(set, first_of(state))
 }
 
-fn is_quiet(state: State) -> bool
-    ensures { result ≡ is_quiet state }
+fn is_unrung(kernel: &Kernel, sm: u32) -> bool
+    ensures { result ≡ is_unrung kernel.now.state.times sm }
 {
-    matches!(state, State::Parked | State::Dead | State::Blocked(_))
+    kernel.sources().iter().all(|a| a.sm != sm)
+}
+
+/// Whether nothing but a deadline has one of neither set do something.
+fn is_quiet(
+    kernel: &Kernel,
+    list: &[Derivation],
+    own: &[bool],
+    others: &[bool],
+    state: State,
+) -> bool
+    requires list { list.now ≡ kernel.now.state.delegations.list }
+    ensures { result ≡ is_quiet kernel.now.state (is_in own.now) (is_in others.now) state }
+{
+    match state {
+        State::Parked | State::Dead => true,
+        State::Blocked(sm) => is_unraised(list, own, others, sm) && is_unrung(kernel, sm),
+        _ => false,
+    }
 }
 
 pub(crate) fn is_of_neither(kernel: &Kernel, own: &[bool], others: &[bool], n: u32) -> bool
@@ -95,11 +114,19 @@ pub(crate) fn is_of_neither(kernel: &Kernel, own: &[bool], others: &[bool], n: u
     !is_member(kernel, own, n) && !is_member(kernel, others, n)
 }
 
-/// Whether one of neither set goes on.
-pub(crate) fn stirs(kernel: &Kernel, own: &[bool], others: &[bool], n: u32, state: State) -> bool
+/// Whether one of neither set goes on, or may be had go on.
+pub(crate) fn stirs(
+    kernel: &Kernel,
+    list: &[Derivation],
+    own: &[bool],
+    others: &[bool],
+    n: u32,
+    state: State,
+) -> bool
+    requires list { list.now ≡ kernel.now.state.delegations.list }
     ensures { result ≡ stirs kernel.now.state (is_in own.now) (is_in others.now) n state }
 {
-    is_of_neither(kernel, own, others, n) && !is_quiet(state)
+    is_of_neither(kernel, own, others, n) && !is_quiet(kernel, list, own, others, state)
 }
 
 fn is_some_held(list: &[Derivation], set: &[bool], sm: Option<u32>) -> bool

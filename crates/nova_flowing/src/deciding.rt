@@ -1,6 +1,8 @@
-ghost use Rattle.std.specs.Prelude.{◌≡◌, ◌&&◌, ◌<◌, find, option_map};
+ghost use Rattle.std.specs.Prelude.{◌≡◌, ◌&&◌, ◌<◌, find, not, option_map};
 ghost use Rattle.std.specs.List.{enumerate_from};
 ghost use Rattle.nova_model.specs.State.{context_at};
+ghost use Rattle.nova_model.specs.Times.{until_due};
+ghost use Rattle.law_sides.specs.Resting.{is_nothing};
 ghost use Rattle.nova_flowing.specs.Premises.{IsDecided, IsOf, fails, first_failing, first_waiting, is_blocked, is_waiting, unless_waiting, verdict_of, waits_in};
 
 use crate::contexts::{blocked_at, is_of_neither};
@@ -14,7 +16,8 @@ use nova_kernel::{Derivation, Kernel, Object};
 pub enum Verdict {
     /// They do.
     Own,
-    /// They do, but for this execution context, which is of neither: it is blocked, and no state that is read tells whether a deadline ends that.
+    /// They do, if no deadline ends the wait of an execution context of neither. This is the first of these that is blocked where something is to come on
+    /// its processor; whether that is its deadline, nothing that is read tells.
     Waits { ec: u32 },
     /// This is the first that doesn't hold, and why.
     Fails { premise: Premise, leak: Leak },
@@ -26,13 +29,21 @@ fn is_blocked(sm: Option<u32>) -> bool
     sm.is_some()
 }
 
-/// Whether an execution context is of neither, and blocked.
+fn comes(kernel: &Kernel, cpu: u32) -> bool
+    ensures { result ≡ not (is_nothing (until_due kernel.now.state.times cpu)) }
+{
+    kernel.until_due(cpu).is_some()
+}
+
+/// Whether an execution context is of neither, and blocked, and something is to come on its processor.
 fn waits_in(kernel: &Kernel, v: &Division, n: u32) -> bool
     ensures { result ≡ waits_in kernel.now.state v.now n (context_at kernel.now.state n) }
 {
     match kernel.ec(n) {
         Some(context) => {
-            is_of_neither(kernel, &v.own, &v.others, n) && is_blocked(blocked_at(context.state))
+            is_of_neither(kernel, &v.own, &v.others, n)
+                && is_blocked(blocked_at(context.state))
+                && comes(kernel, context.cpu)
         }
         None => false,
     }
@@ -47,7 +58,7 @@ fn is_waiting(kernel: &Kernel, v: &Division, n: u32, object: Object) -> bool
     }
 }
 
-/// The first execution context of neither that is blocked.
+/// The first of these.
 fn first_waiting(kernel: &Kernel, v: &Division) -> Option<u32>
     ensures { result ≡ first_waiting kernel.now.state v.now }
 {
@@ -92,8 +103,8 @@ fn unless_waiting(ec: Option<u32>) -> Verdict
 }
 
 /// Whether the premises of noninterference on divided processors hold of the side of `v` in the present state of `kernel`, of which `list` has all
-/// derivations: exactly, but that of an execution context of neither, that is blocked, nothing is said. The first that doesn't hold is answered, in
-/// the order of `Premise`, with its first field that fails.
+/// derivations: exactly, but where an execution context of neither is blocked, and a deadline may end that. The first that doesn't hold is answered,
+/// in the order of `Premise`, with its first field that fails.
 pub fn decide(kernel: &Kernel, list: &[Derivation], v: &Division) -> Verdict
     requires list { list.now ≡ kernel.now.state.delegations.list }
     requires of { IsOf kernel.now.state v.now }

@@ -24,7 +24,7 @@ pub enum Field {
     Waiters,
     /// `IsClosed.firsts`: an execution context gives a first range to a domain that isn't of its set.
     Firsts,
-    /// `AreSeparate.rest`: an execution context of neither goes on.
+    /// `AreSeparate.rest`: an execution context of neither goes on, or one of them or an alarm may have it go on.
     Rest,
     /// `AreSetsApart.objects`: both hold an object.
     Objects,

@@ -144,7 +144,7 @@ fn rest_in(
     requires list { list.now ≡ kernel.now.state.delegations.list }
     ensures { result ≡ rest_in kernel.now.state (own_of v.now) (others_of v.now) n context.now }
 {
-    let rest = stirs(kernel, &v.own, &v.others, n, context.state);
+    let rest = stirs(kernel, list, &v.own, &v.others, n, context.state);
     when(rest, Field::Rest, at_context(n, context)).or(queue_in(kernel, list, v, n, context))
 }
 

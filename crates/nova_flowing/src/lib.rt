@@ -6,6 +6,7 @@ mod capabilities;
 mod contexts;
 mod deciding;
 mod division;
+mod lapse;
 pub mod laws;
 mod leak;
 mod leaks;
@@ -15,6 +16,7 @@ mod tables;
 
 pub use deciding::{Verdict, decide};
 pub use division::Division;
+pub use lapse::{Lapse, LapseKind};
 pub use leak::{Field, Leak, Place, Premise};
 pub use lines::write_flows;
 pub use sides::division_of;

@@ -1,10 +1,12 @@
 // Lines that tell of each side whether the premises hold.
-ghost use Rattle.std.specs.Prelude.{◌≡◌, ◌++◌, ◌≤◌, ◌^◌, ◌<◌, OnOk, codes, flat_map, length, string_bytes};
+ghost use Rattle.std.specs.Prelude.{◌≡◌, ◌++◌, ◌≤◌, ◌^◌, ◌<◌, OnOk, codes, flat_map, length, option_map, string_bytes};
 ghost use Rattle.std.specs.List.{enumerate_from, position, range_with_len};
-ghost use Rattle.nova_flowing.specs.Lines.{begins_side, flow_line, flow_lines, flow_text, has_label, home_text, homes_text, is_place, field_word, place_text, verdict_text};
+ghost use Rattle.nova_flowing.specs.Lines.{begins_side, flow_line, flow_lines, flow_text, has_label, home_text, homes_text, is_place, field_word, lapse_text, place_text, verdict_text, work_text};
 ghost use Rattle.nova_flowing.specs.Tests.{is_in};
+ghost use Rattle.nova_flowing.specs.Working.{first_lapse};
 
 use crate::deciding::{Verdict, decide};
+use crate::lapse::{Lapse, LapseKind};
 use crate::leak::{Field, Place};
 use crate::sides::division_of;
 use crate::tables::is_in;
@@ -80,12 +82,38 @@ fn write_homes(out: &mut String, home: &[bool], cpus: u32) -> Result<(), AllocEr
     Ok(())
 }
 
-fn write_own(out: &mut String, home: &[bool], cpus: u32) -> Result<(), AllocError>
-    ensures { OnOk result (string_bytes out.new ≡ string_bytes out.old ++ verdict_text (is_in home.now) cpus Verdict.Own) }
+/// Until which turn a side is at work, and what is done then.
+fn write_lapse(out: &mut String, turn: u64, ec: u32, kind: LapseKind) -> Result<(), AllocError>
+    ensures { OnOk result (string_bytes out.new ≡ string_bytes out.old ++ lapse_text turn ec kind) }
+{
+    match kind {
+        LapseKind::Creates => writeln!(out, " at work until turn {turn}: ec {ec} creates"),
+        LapseKind::Gives => writeln!(out, " at work until turn {turn}: ec {ec} gives"),
+        LapseKind::Revokes => writeln!(out, " at work until turn {turn}: ec {ec} revokes"),
+    }
+}
+
+/// Until when a side is at work.
+fn write_work(out: &mut String, lapse: Option<Lapse>) -> Result<(), AllocError>
+    ensures { OnOk result (string_bytes out.new ≡ string_bytes out.old ++ work_text lapse) }
+{
+    match lapse {
+        Some(lapse) => write_lapse(out, lapse.turn, lapse.ec, lapse.kind),
+        None => out.push_str(" at work to the end\n"),
+    }
+}
+
+fn write_own(
+    out: &mut String,
+    home: &[bool],
+    cpus: u32,
+    lapse: Option<Lapse>,
+) -> Result<(), AllocError>
+    ensures { OnOk result (string_bytes out.new ≡ string_bytes out.old ++ verdict_text (is_in home.now) cpus lapse Verdict.Own) }
 {
     out.push_str(" own")?;
     write_homes(out, home, cpus)?;
-    out.push_str("\n")
+    write_work(out, lapse)
 }
 
 fn write_failing(out: &mut String, field: Field, place: Place) -> Result<(), AllocError>
@@ -101,15 +129,29 @@ fn write_verdict(
     out: &mut String,
     home: &[bool],
     cpus: u32,
+    lapse: Option<Lapse>,
     verdict: Verdict,
 ) -> Result<(), AllocError>
-    ensures { OnOk result (string_bytes out.new ≡ string_bytes out.old ++ verdict_text (is_in home.now) cpus verdict) }
+    ensures { OnOk result (string_bytes out.new ≡ string_bytes out.old ++ verdict_text (is_in home.now) cpus lapse verdict) }
 {
     match verdict {
-        Verdict::Own => write_own(out, home, cpus),
+        Verdict::Own => write_own(out, home, cpus, lapse),
         Verdict::Waits { ec } => writeln!(out, " waits ec {ec}"),
         Verdict::Fails { leak, .. } => write_failing(out, leak.field, leak.place),
     }
+}
+
+fn lapse_in<'a>(own: &[bool], lapses: &'a [Lapse]) -> Option<&'a Lapse>
+    ensures { option_map (λ l. l.now) result ≡ first_lapse (is_in own.now) lapses.now }
+{
+    lapses.iter().find(|l| is_in(own, l.pd))
+}
+
+/// The first of some lapses that is of a side's domains.
+fn first_lapse(own: &[bool], lapses: &[Lapse]) -> Option<Lapse>
+    ensures { result ≡ first_lapse (is_in own.now) lapses.now }
+{
+    Some(*lapse_in(own, lapses)?)
 }
 
 /// A side in a line.
@@ -119,19 +161,21 @@ fn write_flow(
     policy: &Policy,
     kernel: &Kernel,
     list: &[Derivation],
+    lapses: &[Lapse],
     labels: &[u32],
     label: u32,
 ) -> Result<(), AllocError>
     requires list { list.now ≡ kernel.now.state.delegations.list }
     requires labels { length labels.now ≤ length kernel.now.state.objects }
-    ensures { OnOk result (string_bytes out.new ≡ string_bytes out.old ++ flow_text policy.now kernel.now.state labels.now label) }
+    ensures { OnOk result (string_bytes out.new ≡ string_bytes out.old ++ flow_text policy.now kernel.now.state lapses.now labels.now label) }
 {
     let v = division_of(alloc, kernel, list, labels, label)?;
     let verdict = decide(kernel, list, &v);
+    let lapse = first_lapse(&v.own, lapses);
     let cpus = kernel.cpus();
     out.push_str("flow ")?;
     policy.write_side(out, label)?;
-    write_verdict(out, &v.home, cpus, verdict)
+    write_verdict(out, &v.home, cpus, lapse, verdict)
 }
 
 /// The first number with a label.
@@ -163,39 +207,41 @@ fn write_flow_at(
     policy: &Policy,
     kernel: &Kernel,
     list: &[Derivation],
+    lapses: &[Lapse],
     labels: &[u32],
     n: usize,
     label: u32,
 ) -> Result<(), AllocError>
     requires list { list.now ≡ kernel.now.state.delegations.list }
     requires labels { length labels.now ≤ length kernel.now.state.objects }
-    ensures { OnOk result (string_bytes out.new ≡ string_bytes out.old ++ flow_line policy.now kernel.now.state labels.now (n, label)) }
+    ensures { OnOk result (string_bytes out.new ≡ string_bytes out.old ++ flow_line policy.now kernel.now.state lapses.now labels.now (n, label)) }
 {
     if begins_side(labels, n, label) {
-        write_flow(alloc, out, policy, kernel, list, labels, label)
+        write_flow(alloc, out, policy, kernel, list, lapses, labels, label)
     } else {
         Ok(())
     }
 }
 
 /// Writes of each side of `labels`, the labels of the domains of `kernel` by number, whether the premises of noninterference on divided processors hold
-/// in its present state, of which `list` has all derivations: `own` with the side's processors, or the first that fails, by the field of the law's
+/// in its present state, of which `list` has all derivations: `own` with the side's processors, and the first of `lapses` that is its own; or the first that fails, by the field of the law's
 /// conditions, with the capability, object, execution context or source of which it does; or `waits` with an execution context of no side that is blocked, where only a deadline
-/// of its may be against it. The only refusal is of memory.
+/// of such may be against it. The only refusal is of memory.
 pub fn write_flows(
     alloc: Global,
     out: &mut String,
     policy: &Policy,
     kernel: &Kernel,
     list: &[Derivation],
+    lapses: &[Lapse],
     labels: &[u32],
 ) -> Result<(), AllocError>
     requires list { list.now ≡ kernel.now.state.delegations.list }
     requires labels { length labels.now ≤ length kernel.now.state.objects }
-    ensures { OnOk result (string_bytes out.new ≡ string_bytes out.old ++ flow_lines policy.now kernel.now.state labels.now) }
+    ensures { OnOk result (string_bytes out.new ≡ string_bytes out.old ++ flow_lines policy.now kernel.now.state lapses.now labels.now) }
 {
     for (n, label) in labels.iter().enumerate() {
-        write_flow_at(alloc, out, policy, kernel, list, labels, n, *label)?;
+        write_flow_at(alloc, out, policy, kernel, list, lapses, labels, n, *label)?;
     }
     Ok(())
 }

@@ -39,7 +39,7 @@ fn others_table(alloc: Global, labels: &[u32], label: u32) -> Result<Vec<bool>, 
     Ok(table)
 }
 
-/// Whether an object is an execution context of some domains, on a processor.
+/// Whether `object` is an execution context of some domains, on the processor `cpu`.
 fn is_on(own: &[bool], cpu: u32, object: Object) -> bool
     ensures { result ≡ is_on (is_in own.now) cpu object }
 {
@@ -83,7 +83,7 @@ fn is_rung(sources: &[Alarm], home: &[bool], sm: u32) -> bool
     sources.iter().any(|&source| rings_at(home, sm, source))
 }
 
-/// Whether a semaphore is of a side's part.
+/// Whether the semaphore `n` is of a side's part.
 fn is_semaphore_of(
     kernel: &Kernel,
     list: &[Derivation],
@@ -97,7 +97,7 @@ fn is_semaphore_of(
     holds(list, own, n) || is_any_queued(kernel, own, n) || is_rung(kernel.sources(), home, n)
 }
 
-/// Whether an object is of a side's part.
+/// Whether `object` is of a side's part.
 fn is_part(
     kernel: &Kernel,
     list: &[Derivation],
@@ -132,7 +132,7 @@ fn part_table(
     Ok(table)
 }
 
-/// The side of `label` among those of `labels`, the labels of the domains of `kernel` by number: the others are the domains of other sides; its
+/// The side of `label` among those of `labels`, the labels of the domains of `kernel` by number. The others are the domains of other sides; its
 /// processors are those with an execution context of its, and its part of the objects is what is its own, with the semaphores that it holds, at which
 /// one of it waits, or at which sources of its processors ring.
 pub fn division_of(

@@ -4,7 +4,7 @@ ghost use Rattle.nova_flowing.specs.Tests.{is_domain, is_held, is_in, is_member,
 
 use nova_kernel::{Derivation, Kernel, Kind, Object};
 
-/// What a table has of a number.
+/// What `table` has of `n`.
 pub(crate) fn is_in(table: &[bool], n: u32) -> bool
     ensures { result ≡ is_in table.now n }
 {
@@ -20,7 +20,7 @@ pub(crate) fn is_memory(kind: Kind) -> bool
     matches!(kind, Kind::Mem)
 }
 
-/// Whether an object is an execution context of some domains.
+/// Whether `object` is an execution context of some domains.
 pub(crate) fn is_of(set: &[bool], object: Object) -> bool
     ensures { result ≡ is_of (is_in set.now) (Some object) }
 {
@@ -30,7 +30,7 @@ pub(crate) fn is_of(set: &[bool], object: Object) -> bool
     }
 }
 
-/// Whether a number is that of an execution context of some domains.
+/// Whether `n` is the number of an execution context of the domains `set`.
 pub(crate) fn is_member(kernel: &Kernel, set: &[bool], n: u32) -> bool
     ensures { result ≡ is_member kernel.now.state (is_in set.now) n }
 {
@@ -40,7 +40,7 @@ pub(crate) fn is_member(kernel: &Kernel, set: &[bool], n: u32) -> bool
     }
 }
 
-/// Whether an object of a number is the own of a set of domains. A semaphore is.
+/// Whether `object`, of number `n`, is the own of a set of domains. A semaphore is.
 pub(crate) fn is_own(kernel: &Kernel, set: &[bool], n: u32, object: Object) -> bool
     ensures { result ≡ is_owned kernel.now.state (is_in set.now) n (Some object) }
 {
@@ -52,7 +52,7 @@ pub(crate) fn is_own(kernel: &Kernel, set: &[bool], n: u32, object: Object) -> b
     }
 }
 
-/// Whether the object of a number is the own of a set.
+/// Whether the object of number `n` is the own of `set`.
 pub(crate) fn is_owned(kernel: &Kernel, set: &[bool], n: u32) -> bool
     ensures { result ≡ is_owned kernel.now.state (is_in set.now) n (slice_get kernel.now.state.objects n) }
 {
@@ -62,14 +62,14 @@ pub(crate) fn is_owned(kernel: &Kernel, set: &[bool], n: u32) -> bool
     }
 }
 
-/// Whether the object of a number is a protection domain.
+/// Whether the object of number `n` is a protection domain.
 pub(crate) fn is_domain(kernel: &Kernel, n: u32) -> bool
     ensures { result ≡ is_domain (slice_get kernel.now.state.objects n) }
 {
     matches!(kernel.object(n), Some(Object::Pd))
 }
 
-/// Whether a domain of a set holds a derivation, of an object.
+/// Whether a domain of a set holds the derivation `d`, of an object.
 pub(crate) fn is_held(set: &[bool], d: Derivation) -> bool
     ensures { result ≡ is_held (is_in set.now) d }
 {

@@ -3,6 +3,7 @@ pub use Rattle.nova_naming.specs.Labels
 pub mod Labelled
 pub mod Trails
 pub mod Roles
+pub mod Sharing
 pub mod Lines
 pub mod Sides
 pub mod Processors

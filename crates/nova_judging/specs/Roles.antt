@@ -9,9 +9,9 @@ use Rattle.nova_sides.specs.Works.{role_of}
 use Rattle.nova_sides.specs.declared.roles.Role.{Role}
 use Rattle.nova_sides.specs.declared.roles.Role.TheVariants.{Rests, Bare, Mute, Works}
 
--- a trusted domain that isn't at rest: bare, mute or at work
+-- a trusted domain: at rest, where it does nothing unless one that is at work calls it; bare, mute or at work
 abbrev pub role_text : ℕ → Role → List ℕ
-role_text n Rests = []
+role_text n Rests = codes "domain " ++ (decimal n ++ codes " at rest\n")
 role_text n Bare = codes "domain " ++ (decimal n ++ codes " bare\n")
 role_text n Mute = codes "domain " ++ (decimal n ++ codes " mute\n")
 role_text n Works = codes "domain " ++ (decimal n ++ codes " at work\n")

@@ -11,7 +11,7 @@ use Rattle.nova_ties.specs.declared.tie.Cause.TheVariants.{Domain, Context, Port
 abbrev pub trail : List Derivation → ℕ → List Derivation
 trail list id = line_by (suc id) list (with_id list id)
 
--- what a trail is: each derivation is the parent of the one before it, the first is the one of this id, and the last has no parent
+-- what a trail is: each derivation is the parent of the one before it, the first is that of this id, and the last has no parent
 abbrev pub IsChain : List Derivation → Option ℕ → List Derivation → Type 0
 IsChain list None [] = Unit {0}
 IsChain list None (d ∷ ds) = ⊥

@@ -1,16 +1,17 @@
-ghost use Rattle.std.specs.Prelude.{◌≡◌, ◌++◌, ◌≤◌, ◌^◌, IfOk, OnOk, length, string_bytes};
+ghost use Rattle.std.specs.Prelude.{◌≡◌, ◌++◌, ◌≤◌, ◌^◌, [], IfOk, OnOk, length, string_bytes};
 ghost use Rattle.nova_ties.specs.Ties.{IsStuck, label_in};
-ghost use Rattle.law_sides.specs.Tied.{ties};
-ghost use Rattle.nova_judging.specs.Answers.{AreFinest, AreSettled, IsFinestAnswer, IsGathered, IsNamedAnswer, answer_if, answer_of, finest_lines, finest_text, named_text, stuck_text, turn_line};
+ghost use Rattle.nova_naming.specs.Labels.{flows_of};
+ghost use Rattle.nova_judging.specs.Answers.{AreFinest, AreSettled, IsFinestAnswer, IsGathered, IsNamedAnswer, answer_if, answer_of, between_lines, finest_lines, finest_text, named_text, stuck_text, ties_beside, turn_line};
 ghost use Rattle.nova_judging.specs.Labelled.{labels_of};
 
 use crate::labels::{are_two, labels_of};
-use crate::lines::{write_judged, write_stuck, write_ties};
+use crate::lines::{write_flowing, write_judged, write_stuck, write_ties};
 use crate::processors::write_processors;
+use crate::sharing::write_shared;
 use crate::sides::write_sides;
 use nova_kernel::{Derivation, Kernel};
 use nova_naming::Policy;
-use nova_sides::{Verdict, derivations_of, judge, ties};
+use nova_sides::{Verdict, derivations_of, flowing, judge, ties};
 use nova_ties::{Tie, settle};
 use std::alloc::{AllocError, Global};
 
@@ -43,22 +44,36 @@ pub struct Told {
 /// The most objects of a state that is judged.
 const MOST: usize = 1 << 31;
 
-/// What is asked of a state: its ties, its derivations, and the labels that a policy gives.
+/// What is asked of a state: its ties, its derivations, the labels that a policy gives, the semaphores that sides share, and what flows between them.
 #[derive(Drop)]
 pub struct Facts {
     pub ties: Vec<Tie>,
     pub list: Vec<Derivation>,
     pub labels: Vec<u32>,
+    pub shared: Vec<u32>,
+    pub flows: Vec<(u32, u32)>,
 }
 
-fn gather(alloc: Global, policy: &Policy, kernel: &Kernel) -> Result<Facts, AllocError>
+fn gather(
+    alloc: Global,
+    policy: &Policy,
+    kernel: &Kernel,
+    flows: Vec<(u32, u32)>,
+) -> Result<Facts, AllocError>
     requires few { length kernel.now.state.objects ≤ 2 ^ 31 }
-    ensures gathered { IfOk result (IsGathered policy.now kernel.now.state) }
+    ensures gathered { IfOk result (IsGathered flows.items policy.now kernel.now.state) }
 {
-    let ties = ties(alloc, kernel)?;
-    let list = derivations_of(alloc, kernel)?;
+    let shared = policy.semaphores(alloc)?;
     let labels = labels_of(alloc, policy, kernel)?;
-    Ok(Facts { ties, list, labels })
+    let ties = ties(alloc, kernel, &labels, &shared, &flows)?;
+    let list = derivations_of(alloc, kernel)?;
+    Ok(Facts {
+        ties,
+        list,
+        labels,
+        shared,
+        flows,
+    })
 }
 
 fn answer_if(two: bool, answer: Answer) -> Answer
@@ -67,7 +82,7 @@ fn answer_if(two: bool, answer: Answer) -> Answer
     if two { answer } else { Answer::Single }
 }
 
-/// The answer of a verdict, where there are two sides or not.
+/// The answer of `verdict`, where there are two sides or not.
 fn answer_of(two: bool, verdict: Verdict) -> Answer
     ensures { result ≡ answer_of two verdict }
 {
@@ -78,10 +93,9 @@ fn answer_of(two: bool, verdict: Verdict) -> Answer
     }
 }
 
-/// Joins sides to the finest that respect the ties of a state, or answers the tie for which there are none.
-fn settle_in(kernel: &Kernel, labels: &mut [u32], tied: &[Tie]) -> Option<Tie>
-    requires ties { tied.now ≡ ties kernel.now.state }
-    ensures { AreSettled kernel.now.state labels.old labels.new result }
+/// Joins sides to the finest that respect some ties, or answers the tie for which there are none.
+fn settle_in(labels: &mut [u32], tied: &[Tie]) -> Option<Tie>
+    ensures { AreSettled tied.now labels.old labels.new result }
 {
     settle(labels, tied)
 }
@@ -103,7 +117,7 @@ fn write_finest(
     stuck: Option<Tie>,
 ) -> Result<(), AllocError>
     requires few { length kernel.now.state.objects ≤ 2 ^ 31 }
-    requires facts { IsGathered policy.now kernel.now.state facts.now }
+    requires facts { IsGathered (flows_of policy.now) policy.now kernel.now.state facts.now }
     ensures { OnOk result (string_bytes out.new ≡ string_bytes out.old ++ finest_lines policy.now kernel.now.state (labels_of policy.now kernel.now.state) new.now stuck) }
 {
     match stuck {
@@ -112,9 +126,35 @@ fn write_finest(
     }
 }
 
+/// What is told of what sides share and of what flows between them.
+fn write_between(
+    out: &mut String,
+    alloc: Global,
+    policy: &Policy,
+    kernel: &Kernel,
+    facts: &Facts,
+) -> Result<(), AllocError>
+    requires few { length kernel.now.state.objects ≤ 2 ^ 31 }
+    requires facts { IsGathered (flows_of policy.now) policy.now kernel.now.state facts.now }
+    ensures { OnOk result (string_bytes out.new ≡ string_bytes out.old ++ between_lines policy.now kernel.now.state (labels_of policy.now kernel.now.state)) }
+{
+    write_shared(
+        out,
+        alloc,
+        policy,
+        kernel,
+        &facts.labels,
+        &facts.list,
+        &facts.shared,
+    )?;
+    let flowing = flowing(alloc, kernel, &facts.labels, &facts.flows)?;
+    write_flowing(out, policy, &facts.labels, &flowing)
+}
+
 /// What is told of the sides as a policy names them.
 fn write_named(
     out: &mut String,
+    alloc: Global,
     policy: &Policy,
     kernel: &Kernel,
     facts: &Facts,
@@ -123,13 +163,14 @@ fn write_named(
     stuck: Option<Tie>,
 ) -> Result<(), AllocError>
     requires few { length kernel.now.state.objects ≤ 2 ^ 31 }
-    requires facts { IsGathered policy.now kernel.now.state facts.now }
+    requires facts { IsGathered (flows_of policy.now) policy.now kernel.now.state facts.now }
     ensures { OnOk result (string_bytes out.new ≡ string_bytes out.old
         ++ named_text policy.now kernel.now.state (labels_of policy.now kernel.now.state) new.now stuck verdict) }
 {
     write_turn(out, kernel)?;
     write_judged(out, policy, &facts.labels, kernel, &facts.list, verdict)?;
     write_finest(out, policy, kernel, facts, new, stuck)?;
+    write_between(out, alloc, policy, kernel, facts)?;
     write_processors(out, policy, kernel, &facts.labels, &facts.list)?;
     write_ties(out, policy, &facts.labels, &facts.ties)
 }
@@ -144,7 +185,7 @@ fn write_found(
     new: &[u32],
 ) -> Result<(), AllocError>
     requires few { length kernel.now.state.objects ≤ 2 ^ 31 }
-    requires facts { IsGathered policy.now kernel.now.state facts.now }
+    requires facts { IsGathered [] policy.now kernel.now.state facts.now }
     ensures { OnOk result (string_bytes out.new ≡ string_bytes out.old
         ++ finest_text policy.now kernel.now.state (labels_of policy.now kernel.now.state) new.now verdict) }
 {
@@ -163,7 +204,7 @@ fn write_none(
     facts: &Facts,
     tie: Tie,
 ) -> Result<(), AllocError>
-    requires facts { IsGathered policy.now kernel.now.state facts.now }
+    requires facts { IsGathered [] policy.now kernel.now.state facts.now }
     ensures { OnOk result (string_bytes out.new ≡ string_bytes out.old
         ++ stuck_text policy.now kernel.now.state (labels_of policy.now kernel.now.state) tie) }
 {
@@ -181,13 +222,13 @@ fn tell_settled(
     stuck: Option<Tie>,
 ) -> Result<Told, AllocError>
     requires few { length kernel.now.state.objects ≤ 2 ^ 31 }
-    requires facts { IsGathered policy.now kernel.now.state facts.now }
-    requires settled { AreSettled kernel.now.state (labels_of policy.now kernel.now.state) new.now stuck }
+    requires facts { IsGathered (flows_of policy.now) policy.now kernel.now.state facts.now }
+    requires settled { AreSettled (ties_beside (flows_of policy.now) policy.now kernel.now.state) (labels_of policy.now kernel.now.state) new.now stuck }
     ensures { IfOk result (λ t. IsNamedAnswer policy.now kernel.now.state t.answer (string_bytes t.text)) }
 {
-    let verdict = judge(alloc, kernel, &facts.labels)?;
+    let verdict = judge(alloc, kernel, &facts.labels, &facts.shared, &facts.flows)?;
     let mut text = String::new(alloc);
-    write_named(&mut text, policy, kernel, facts, verdict, new, stuck)?;
+    write_named(&mut text, alloc, policy, kernel, facts, verdict, new, stuck)?;
     Ok(Told {
         answer: answer_of(are_two(&facts.labels), verdict),
         text,
@@ -202,11 +243,11 @@ fn tell_named_by(
     new: &mut [u32],
 ) -> Result<Told, AllocError>
     requires few { length kernel.now.state.objects ≤ 2 ^ 31 }
-    requires facts { IsGathered policy.now kernel.now.state facts.now }
+    requires facts { IsGathered (flows_of policy.now) policy.now kernel.now.state facts.now }
     requires labels { new.old ≡ labels_of policy.now kernel.now.state }
     ensures { IfOk result (λ t. IsNamedAnswer policy.now kernel.now.state t.answer (string_bytes t.text)) }
 {
-    let stuck = settle_in(kernel, new, &facts.ties);
+    let stuck = settle_in(new, &facts.ties);
     tell_settled(alloc, policy, kernel, facts, new, stuck)
 }
 
@@ -217,7 +258,7 @@ fn tell_named(
     facts: &Facts,
 ) -> Result<Told, AllocError>
     requires few { length kernel.now.state.objects ≤ 2 ^ 31 }
-    requires facts { IsGathered policy.now kernel.now.state facts.now }
+    requires facts { IsGathered (flows_of policy.now) policy.now kernel.now.state facts.now }
     ensures { IfOk result (λ t. IsNamedAnswer policy.now kernel.now.state t.answer (string_bytes t.text)) }
 {
     let mut new = Vec::from_slice(alloc, &facts.labels)?;
@@ -233,11 +274,11 @@ fn tell_found(
 ) -> Result<Told, AllocError>
     requires few { length kernel.now.state.objects ≤ 2 ^ 31 }
     requires labels { length new.now ≤ 2 ^ 31 }
-    requires facts { IsGathered policy.now kernel.now.state facts.now }
-    requires finest { AreFinest kernel.now.state (labels_of policy.now kernel.now.state) new.now }
+    requires facts { IsGathered [] policy.now kernel.now.state facts.now }
+    requires finest { AreFinest (ties_beside [] policy.now kernel.now.state) (labels_of policy.now kernel.now.state) new.now }
     ensures { IfOk result (λ t. IsFinestAnswer policy.now kernel.now.state t.answer (string_bytes t.text)) }
 {
-    let verdict = judge(alloc, kernel, new)?;
+    let verdict = judge(alloc, kernel, new, &facts.shared, &facts.flows)?;
     let mut text = String::new(alloc);
     write_found(&mut text, policy, kernel, facts, verdict, new)?;
     Ok(Told {
@@ -253,8 +294,8 @@ fn tell_none(
     facts: &Facts,
     tie: Tie,
 ) -> Result<Told, AllocError>
-    requires facts { IsGathered policy.now kernel.now.state facts.now }
-    requires stuck { IsStuck (ties kernel.now.state) (label_in (labels_of policy.now kernel.now.state)) tie }
+    requires facts { IsGathered [] policy.now kernel.now.state facts.now }
+    requires stuck { IsStuck (ties_beside [] policy.now kernel.now.state) (label_in (labels_of policy.now kernel.now.state)) tie }
     ensures { IfOk result (λ t. IsFinestAnswer policy.now kernel.now.state t.answer (string_bytes t.text)) }
 {
     let mut text = String::new(alloc);
@@ -273,11 +314,11 @@ fn tell_finest_by(
     new: &mut [u32],
 ) -> Result<Told, AllocError>
     requires few { length kernel.now.state.objects ≤ 2 ^ 31 }
-    requires facts { IsGathered policy.now kernel.now.state facts.now }
+    requires facts { IsGathered [] policy.now kernel.now.state facts.now }
     requires labels { new.old ≡ labels_of policy.now kernel.now.state }
     ensures { IfOk result (λ t. IsFinestAnswer policy.now kernel.now.state t.answer (string_bytes t.text)) }
 {
-    let stuck = settle_in(kernel, new, &facts.ties);
+    let stuck = settle_in(new, &facts.ties);
     if new.len() > MOST {
         return Err(AllocError);
     }
@@ -294,33 +335,36 @@ fn tell_finest(
     facts: &Facts,
 ) -> Result<Told, AllocError>
     requires few { length kernel.now.state.objects ≤ 2 ^ 31 }
-    requires facts { IsGathered policy.now kernel.now.state facts.now }
+    requires facts { IsGathered [] policy.now kernel.now.state facts.now }
     ensures { IfOk result (λ t. IsFinestAnswer policy.now kernel.now.state t.answer (string_bytes t.text)) }
 {
     let mut new = Vec::from_slice(alloc, &facts.labels)?;
     tell_finest_by(alloc, policy, kernel, facts, &mut new)
 }
 
-/// What the sides of a policy are in the present state of a kernel, as the policy names them: whether they are isolated, exactly, and whether
-/// what is trusted is at rest, exactly; with the finest sides to which they can be joined, which sides may take turns of which processor, and the
-/// ties of sides to other domains. A number that the policy names, and that is no domain, counts for nothing. The only refusal is of memory.
+/// What the sides of `policy` are in the present state of `kernel`, as it names them: whether they are isolated, but for semaphores that they share and
+/// memory that flows between them by the policy, exactly, and whether what is trusted is at rest, exactly; with the finest sides to which they can be
+/// joined, these semaphores, this memory, which sides may take turns of which processor, and the ties of sides to other domains. A number that the
+/// policy names, and that is no domain, counts for nothing. The only refusal is of memory.
 pub fn answer_named(alloc: Global, policy: &Policy, kernel: &Kernel) -> Result<Told, AllocError>
     ensures { IfOk result (λ t. IsNamedAnswer policy.now kernel.now.state t.answer (string_bytes t.text)) }
 {
     if kernel.objects().len() > MOST {
         return Err(AllocError);
     }
-    let facts = gather(alloc, policy, kernel)?;
+    let flows = policy.flows(alloc)?;
+    let facts = gather(alloc, policy, kernel, flows)?;
     tell_named(alloc, policy, kernel, &facts)
 }
 
-/// What the finest sides are to which those of a policy can be joined, in the present state of a kernel, or the tie for which there are none.
+/// What the finest sides are to which those of `policy` can be joined, in the present state of `kernel`, or the tie for which there are none. Between
+/// them nothing flows: of the flows that the policy permits nothing is taken.
 pub fn answer_finest(alloc: Global, policy: &Policy, kernel: &Kernel) -> Result<Told, AllocError>
     ensures { IfOk result (λ t. IsFinestAnswer policy.now kernel.now.state t.answer (string_bytes t.text)) }
 {
     if kernel.objects().len() > MOST {
         return Err(AllocError);
     }
-    let facts = gather(alloc, policy, kernel)?;
+    let facts = gather(alloc, policy, kernel, Vec::new(alloc))?;
     tell_finest(alloc, policy, kernel, &facts)
 }

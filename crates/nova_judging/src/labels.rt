@@ -6,7 +6,7 @@ use nova_kernel::{Kernel, Object};
 use nova_naming::Policy;
 use std::alloc::{AllocError, Global};
 
-/// The label of an object.
+/// The label of `object`.
 fn labelled(policy: &Policy, n: u32, object: Object) -> u32
     requires { n < 2 ^ 31 }
     ensures { result ≡ labelled policy.now (n, object) }
@@ -17,7 +17,7 @@ fn labelled(policy: &Policy, n: u32, object: Object) -> u32
     }
 }
 
-/// The labels that a policy gives to the objects of a kernel.
+/// The labels that `policy` gives to the objects of `kernel`.
 #[tactic(auto, unfolding(crate::specs::Labelled::labels_of))]
 pub(crate) fn labels_of(
     alloc: Global,
@@ -35,21 +35,21 @@ pub(crate) fn labels_of(
     Ok(labels)
 }
 
-/// Whether a label is of another side.
+/// Whether `label` is of another side.
 fn is_another(label: u32, other: u32) -> bool
     ensures { result ≡ is_another label other }
 {
     other != 0 && other != label
 }
 
-/// Whether one of some labels is of another side.
+/// Whether one of `labels` is of another side than `label`.
 fn is_other_in(labels: &[u32], label: u32) -> bool
     ensures { result ≡ list_any (is_another label) labels.now }
 {
     labels.iter().any(|&other| is_another(label, other))
 }
 
-/// Whether a label is of a side, and another is of another.
+/// Whether `label` is of a side, and one of `labels` is of another.
 fn has_another(labels: &[u32], label: u32) -> bool
     ensures { result ≡ has_another labels.now label }
 {

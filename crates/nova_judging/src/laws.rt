@@ -6,8 +6,8 @@ ghost use Rattle.nova_model.specs.declared.delegation.Derivation.{Derivation};
 ghost use Rattle.nova_range.specs.declared.range.Kind.TheVariants.{Mem, Obj};
 ghost use Rattle.nova_judging.specs.Trails.{IsChain, trail, trail_lines};
 
-/// Where a capability came from is told as the chain of its parents. In each state that turns reach from a boot state, the trail of a
-/// derivation begins with itself, each one is the parent of the one before it, and the last has no parent; and no other list is such a chain.
+/// Where a capability came from is told as the chain of its parents. In each state that turns reach from a boot state, the trail of a derivation
+/// begins with itself, each is the parent of the one before it, and the last has no parent; and no other list is such a chain.
 pub fn a_trail_is_the_chain_of_parents()
     ensures chain { (scenario : Scenario) (turns : List ℕ) (d : Derivation) → Contains (run (boot scenario) turns).delegations.list d
         → IsChain (run (boot scenario) turns).delegations.list (Some d.id) (trail (run (boot scenario) turns).delegations.list d.id) }

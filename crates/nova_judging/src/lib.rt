@@ -7,9 +7,10 @@ pub mod laws;
 mod lines;
 mod processors;
 mod roles;
+mod sharing;
 mod sides;
 mod strangers;
 mod trails;
 
 pub use answer::{Answer, Told, answer_finest, answer_named};
-pub use strangers::{Stranger, first_stranger};
+pub use strangers::{Expected, Stranger, first_stranger};

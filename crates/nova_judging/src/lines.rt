@@ -1,7 +1,7 @@
 ghost use Rattle.std.specs.Prelude.{◌≡◌, ◌++◌, OnOk, codes, decimal, false, string_bytes, true};
 ghost use Rattle.nova_model.specs.State.{pd_of};
 ghost use Rattle.nova_report.specs.Words.{line_feed};
-ghost use Rattle.nova_judging.specs.Lines.{breach_lines, cause_text, domain_text, is_untold, judged_lines, restless_lines, strict_text, stuck_lines, tie_line, tie_lines, tie_text, verdict_lines};
+ghost use Rattle.nova_judging.specs.Lines.{breach_lines, cause_text, domain_text, flowing_line, flowing_lines, is_untold, judged_lines, restless_lines, strict_text, stuck_lines, tie_line, tie_lines, tie_text, verdict_lines};
 ghost use Rattle.nova_judging.specs.Roles.{role_lines};
 ghost use Rattle.nova_judging.specs.Trails.{trail_lines};
 
@@ -14,8 +14,8 @@ use nova_sides::{Restless, Verdict};
 use nova_ties::{Cause, Tie, label_of};
 use std::alloc::AllocError;
 
-/// The protection domain of an execution context.
-fn domain_of(kernel: &Kernel, ec: u32) -> u32
+/// The protection domain of the execution context `ec`.
+pub(crate) fn domain_of(kernel: &Kernel, ec: u32) -> u32
     ensures { result ≡ pd_of kernel.now.state ec }
 {
     match kernel.object(ec) {
@@ -24,7 +24,7 @@ fn domain_of(kernel: &Kernel, ec: u32) -> u32
     }
 }
 
-/// A domain, behind what its side is called.
+/// Writes `domain`, behind what its side is called.
 fn write_domain(
     out: &mut String,
     policy: &Policy,
@@ -61,7 +61,7 @@ fn write_strict(out: &mut String, strict: bool) -> Result<(), AllocError>
     out.push_str(if strict { " strict\n" } else { "\n" })
 }
 
-/// The two domains of a tie, and why they are tied.
+/// Writes the two domains of `tie`, and why they are tied.
 fn write_tie(out: &mut String, policy: &Policy, labels: &[u32], tie: Tie) -> Result<(), AllocError>
     ensures { OnOk result (string_bytes out.new ≡ string_bytes out.old ++ tie_text policy.now labels.now tie) }
 {
@@ -73,7 +73,7 @@ fn write_tie(out: &mut String, policy: &Policy, labels: &[u32], tie: Tie) -> Res
     write_strict(out, tie.strict)
 }
 
-/// Whether a tie is of what is trusted, or of a domain to itself.
+/// Whether `tie` is of what is trusted, or of a domain to itself.
 fn is_untold(labels: &[u32], tie: Tie) -> bool
     ensures { result ≡ is_untold labels.now tie }
 {
@@ -110,7 +110,34 @@ pub(crate) fn write_ties(
     Ok(())
 }
 
-/// A tie that sides don't respect, with where its capabilities came from.
+fn write_flowing_line(
+    out: &mut String,
+    policy: &Policy,
+    labels: &[u32],
+    tie: Tie,
+) -> Result<(), AllocError>
+    ensures { OnOk result (string_bytes out.new ≡ string_bytes out.old ++ flowing_line policy.now labels.now tie) }
+{
+    out.push_str("flows ")?;
+    write_tie(out, policy, labels, tie)
+}
+
+/// Writes the memory that flows from sides to others.
+pub(crate) fn write_flowing(
+    out: &mut String,
+    policy: &Policy,
+    labels: &[u32],
+    flowing: &[Tie],
+) -> Result<(), AllocError>
+    ensures { OnOk result (string_bytes out.new ≡ string_bytes out.old ++ flowing_lines policy.now labels.now flowing.now) }
+{
+    for tie in flowing {
+        write_flowing_line(out, policy, labels, *tie)?;
+    }
+    Ok(())
+}
+
+/// Writes `tie`, which sides don't respect, with where its capabilities came from.
 fn write_breach(
     out: &mut String,
     policy: &Policy,
@@ -125,7 +152,7 @@ fn write_breach(
     write_cause_trails(out, list, tie.cause)
 }
 
-/// Writes a tie that no sides respect, with where its capabilities came from.
+/// Writes `tie`, which no sides respect, with where its capabilities came from.
 pub(crate) fn write_stuck(
     out: &mut String,
     policy: &Policy,
@@ -140,7 +167,7 @@ pub(crate) fn write_stuck(
     write_cause_trails(out, list, tie.cause)
 }
 
-/// A capability that leads to what is trusted, with where it came from.
+/// Writes `derivation`, a capability that leads to what is trusted, with where it came from.
 fn write_leading(
     out: &mut String,
     policy: &Policy,
@@ -179,7 +206,7 @@ fn write_restless(
     }
 }
 
-/// Why not all that is trusted is at rest, and what each trusted domain is that isn't.
+/// Why not all that is trusted is at rest, and what each trusted domain is.
 fn write_served(
     out: &mut String,
     policy: &Policy,
@@ -196,7 +223,7 @@ fn write_served(
     write_roles(out, labels, kernel, list)
 }
 
-/// A verdict on two sides.
+/// Writes `verdict`, on two sides.
 fn write_verdict(
     out: &mut String,
     policy: &Policy,
@@ -215,7 +242,7 @@ fn write_verdict(
     }
 }
 
-/// A verdict where there are no two sides.
+/// Writes `verdict`, where there are no two sides.
 fn write_single(
     out: &mut String,
     policy: &Policy,

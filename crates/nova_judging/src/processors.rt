@@ -11,7 +11,7 @@ use nova_naming::Policy;
 use nova_ties::label_of;
 use std::alloc::AllocError;
 
-/// Whether an object is an execution context of a side, on a processor.
+/// Whether `object` is an execution context of a side, on the processor `cpu`.
 fn is_on(labels: &[u32], label: u32, cpu: u32, object: Object) -> bool
     ensures { result ≡ is_on labels.now label cpu object }
 {
@@ -29,13 +29,13 @@ fn is_any_on(labels: &[u32], label: u32, cpu: u32, objects: &[Object]) -> bool
         .any(|&object| is_on(labels, label, cpu, object))
 }
 
-fn is_object(kind: Kind) -> bool
+pub(crate) fn is_object(kind: Kind) -> bool
     ensures { result ≡ not (is_memory kind) }
 {
     matches!(kind, Kind::Obj)
 }
 
-/// Whether a capability of a side leads to a protection domain, to create in it.
+/// Whether `d`, a capability of a side, leads to a protection domain, to create in it.
 fn creates(kernel: &Kernel, labels: &[u32], label: u32, d: Derivation) -> bool
     ensures { result ≡ creates kernel.now.state labels.now label d }
 {
@@ -51,7 +51,7 @@ fn creates_by(kernel: &Kernel, labels: &[u32], label: u32, list: &[Derivation]) 
     list.iter().any(|&d| creates(kernel, labels, label, d))
 }
 
-/// Whether a side has an execution context on a processor, or may come to have one.
+/// Whether a side has an execution context on the processor `cpu`, or may come to have one.
 fn may_run(kernel: &Kernel, labels: &[u32], list: &[Derivation], cpu: u32, label: u32) -> bool
     requires list { list.now ≡ kernel.now.state.delegations.list }
     ensures { result ≡ may_run kernel.now.state labels.now cpu label }
@@ -97,7 +97,7 @@ fn write_runners(
     Ok(())
 }
 
-/// A processor, with the sides that may take turns of it.
+/// Writes the processor `cpu`, with the sides that may take turns of it.
 fn write_processor(
     out: &mut String,
     policy: &Policy,

@@ -8,19 +8,19 @@ use nova_sides::{Role, role_of};
 use nova_ties::label_of;
 use std::alloc::AllocError;
 
-/// What a trusted domain is, if it isn't at rest.
+/// Writes what the trusted domain `n` is.
 fn write_role(out: &mut String, n: u32, role: Role) -> Result<(), AllocError>
     ensures { OnOk result (string_bytes out.new ≡ string_bytes out.old ++ role_text n role) }
 {
     match role {
-        Role::Rests => Ok(()),
+        Role::Rests => writeln!(out, "domain {n} at rest"),
         Role::Bare => writeln!(out, "domain {n} bare"),
         Role::Mute => writeln!(out, "domain {n} mute"),
         Role::Works => writeln!(out, "domain {n} at work"),
     }
 }
 
-/// The same of an object, if it is a trusted domain.
+/// Writes what `object` is, if it is a trusted domain that isn't at rest.
 fn write_role_of(
     out: &mut String,
     labels: &[u32],
@@ -41,7 +41,7 @@ fn write_role_of(
     write_role(out, n, role_of(kernel, labels, list, n))
 }
 
-/// Writes what each trusted domain is that isn't at rest.
+/// Writes what each trusted domain is.
 pub(crate) fn write_roles(
     out: &mut String,
     labels: &[u32],

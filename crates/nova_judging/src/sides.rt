@@ -26,7 +26,7 @@ fn write_member(
     write!(out, " {n}")
 }
 
-/// The domains of a label.
+/// Writes the domains of `label`.
 fn write_members(
     out: &mut String,
     labels: &[u32],
@@ -42,7 +42,7 @@ fn write_members(
     Ok(())
 }
 
-/// The first number with a label.
+/// The first number with `label`.
 fn place_of(labels: &[u32], label: u32) -> Option<usize>
     ensures { result ≡ position (has_label label) labels.now }
 {
@@ -58,7 +58,7 @@ fn is_place(n: usize, place: Option<usize>) -> bool
     }
 }
 
-/// Whether a number is the first with the label of a side.
+/// Whether `n` is the first number with `label`, that of a side.
 pub(crate) fn begins_side(labels: &[u32], n: usize, label: u32) -> bool
     ensures { result ≡ begins_side labels.now (n, label) }
 {

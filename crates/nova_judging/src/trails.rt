@@ -26,7 +26,7 @@ fn write_parent(out: &mut String, parent: Option<u32>) -> Result<(), AllocError>
     }
 }
 
-/// A derivation, with what a report tells of it.
+/// Writes `derivation`, with what a report tells of it.
 fn write_link(out: &mut String, derivation: Derivation) -> Result<(), AllocError>
     ensures { OnOk result (string_bytes out.new ≡ string_bytes out.old ++ link_line derivation) }
 {
@@ -53,21 +53,21 @@ fn of_id(list: &[Derivation], id: u32) -> Option<&Derivation>
     list.iter().find(|d| d.id == id)
 }
 
-/// The derivation of an id, where there is one.
+/// The derivation `id` of `list`, where there is one.
 fn with_id(list: &[Derivation], id: u32) -> Option<Derivation>
     ensures { result ≡ with_id list.now id }
 {
     Some(*of_id(list, id)?)
 }
 
-/// The derivation from which another one was derived, if it was.
+/// The derivation of `list` from which `derivation` was derived, if it was.
 fn parent_of(list: &[Derivation], derivation: Derivation) -> Option<Derivation>
     ensures { result ≡ parent_of list.now derivation }
 {
     with_id(list, derivation.parent?)
 }
 
-/// Writes where a capability came from: itself, that from which it was derived, and so on.
+/// Writes where the capability `cap` came from: itself, that from which it was derived, and so on.
 pub(crate) fn write_trail(out: &mut String, list: &[Derivation], cap: u32) -> Result<(), AllocError>
     ensures { OnOk result (string_bytes out.new ≡ string_bytes out.old ++ trail_lines list.now cap) }
 {
@@ -82,7 +82,7 @@ pub(crate) fn write_trail(out: &mut String, list: &[Derivation], cap: u32) -> Re
     Ok(())
 }
 
-/// Where two capabilities came from.
+/// Writes where the capabilities `cap` and `other` came from.
 fn write_trails(
     out: &mut String,
     list: &[Derivation],
@@ -95,7 +95,7 @@ fn write_trails(
     write_trail(out, list, other)
 }
 
-/// Writes where the capabilities of a tie came from.
+/// Writes where the capabilities of `cause` came from.
 pub(crate) fn write_cause_trails(
     out: &mut String,
     list: &[Derivation],

@@ -1,14 +1,15 @@
 -- Policies as texts.
-use Rattle.std.specs.Prelude.{◌≡◌, ℕ, ◌==◌, Bool, true, false, ◌||◌, flat_map, is_ok, if◌then◌else◌, List, [], ◌∷◌, ◌++◌, length, nat_le, Option, Some, None, Result, Ok, Err}
+use Rattle.std.specs.Prelude.{◌≡◌, ℕ, ◌==◌, Bool, true, false, not, ◌&&◌, ◌||◌, flat_map, is_ok, if◌then◌else◌, List, [], ◌∷◌, ◌++◌, length, nat_le, Option, Some, None, Result, Ok, Err}
 use Rattle.std.specs.List.{list_all, list_any}
+use Rattle.std.specs.Option.{option_or}
 use Rattle.std.specs.Str.{bytes_eq}
 use Rattle.nova_text.specs.Line.{Row, lines}
 use Rattle.nova_text.specs.Token.{texts_of, tokens}
-use Rattle.nova_naming.specs.Statements.{Stated, said}
+use Rattle.nova_naming.specs.Statements.{OneWay, Stated, said}
 use Rattle.nova_naming.specs.declared.fault.PolicyFault.{PolicyFault}
 use Rattle.nova_naming.specs.declared.fault.PolicyFault.TheVariants.{At as AtLine, Memory}
 use Rattle.nova_naming.specs.declared.fault.PolicyWhy.{PolicyWhy}
-use Rattle.nova_naming.specs.declared.fault.PolicyWhy.TheVariants.{SameName, SameDomain, TooMany}
+use Rattle.nova_naming.specs.declared.fault.PolicyWhy.TheVariants.{SameName, SameDomain, SameSemaphore, NoSide, SameSide, SameFlow, TooMany}
 
 -- BESIDE OTHER LINES
 
@@ -21,6 +22,13 @@ names domain s = is_among s.domains domain
 
 abbrev pub is_named : List Stated → ℕ → Bool
 is_named policy domain = list_any (names domain) policy
+
+-- and so is a semaphore
+abbrev pub shares : ℕ → Stated → Bool
+shares semaphore s = is_among s.semaphores semaphore
+
+abbrev pub is_shared : List Stated → ℕ → Bool
+is_shared policy semaphore = list_any (shares semaphore) policy
 
 -- a name is that of one of these lines
 abbrev pub is_called : List ℕ → Option (List ℕ) → Bool
@@ -36,13 +44,33 @@ abbrev pub repeats : List ℕ → Bool
 repeats [] = false
 repeats (d ∷ ds) = is_among ds d || repeats ds
 
+-- one of these lines says this flow
+abbrev pub is_same_flow : OneWay → Option OneWay → Bool
+is_same_flow flow None = false
+is_same_flow flow (Some other) = bytes_eq other.from flow.from && bytes_eq other.to flow.to
+
+abbrev pub flows_so : OneWay → Stated → Bool
+flows_so flow s = is_same_flow flow s.flow
+
+-- why a flow can't stand behind these lines: one of its sides isn't there, both are one, or it is said
+abbrev pub flow_clash : List Stated → Option OneWay → Option PolicyWhy
+flow_clash policy None = None
+flow_clash policy (Some flow) =
+    if not (is_taken policy (Some flow.from) && is_taken policy (Some flow.to)) then Some NoSide
+    else if bytes_eq flow.from flow.to then Some SameSide
+    else if list_any (flows_so flow) policy then Some SameFlow
+    else None
+
+abbrev pub is_full : List Stated → Option PolicyWhy
+is_full policy = if nat_le 1000 (length policy) then Some TooMany else None
+
 -- why what a line says can't stand behind these lines
 abbrev pub clash : List Stated → Stated → Option PolicyWhy
 clash policy s =
     if is_taken policy s.side then Some SameName
     else if list_any (is_named policy) s.domains || repeats s.domains then Some SameDomain
-    else if nat_le 1000 (length policy) then Some TooMany
-    else None
+    else if list_any (is_shared policy) s.semaphores || repeats s.semaphores then Some SameSemaphore
+    else option_or (flow_clash policy s.flow) (is_full policy)
 
 -- ALL LINES
 
@@ -80,7 +108,7 @@ policy_of text = with_lines [] (lines text)
 
 -- WHAT IS ANSWERED
 
--- a fault is the one that is wanted. Want of memory may be answered instead of anything
+-- a fault is that which is wanted. Want of memory may be answered instead of anything
 abbrev pub IsFault : {A : Type 0} → Result A At → PolicyFault → Type 0
 IsFault wanted (AtLine line why) = wanted ≡ Err (record { line = line; why = why })
 IsFault wanted Memory = Unit {0}

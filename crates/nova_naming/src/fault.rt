@@ -6,25 +6,38 @@ use std::fmt;
 /// Why a line is none of a policy.
 #[derive(Clone, Copy, Debug, PartialEq, Eq)]
 pub enum PolicyWhy {
-    /// It begins with neither `trusted` nor `side`.
+    /// It begins with none of `trusted`, `side`, `shared` and `flow`.
     Word,
 
-    /// The name of its side isn't there, or isn't one: a letter, and up to 31 more letters, digits, `-` and `_`; and not `trusted`.
+    /// The name of its side isn't there, or isn't one: a letter, and up to 31 more letters, digits, `-` and `_`; and not `trusted`. Or it says `flow` of
+    /// anything but two names.
     Name,
 
     /// A word where a number below 2^32 is to stand isn't one.
     Number,
 
-    /// It names no domain.
+    /// It names no domain, or no semaphore.
     Empty,
 
     /// A line before it has its side's name.
     SameName,
 
-    /// It names a domain twice, or one that a line before it names.
+    /// It names a domain twice, or a domain that a line before it names.
     SameDomain,
 
-    /// There are 1,000 lines before it that name domains.
+    /// It names a semaphore twice, or one that a line before it names.
+    SameSemaphore,
+
+    /// No line before it has the name of a side of its flow.
+    NoSide,
+
+    /// Its flow is from a side to itself.
+    SameSide,
+
+    /// A line before it says its flow.
+    SameFlow,
+
+    /// There are 1,000 lines before it that say something.
     TooMany,
 }
 
@@ -42,6 +55,10 @@ impl fmt::Display for PolicyWhy {
             PolicyWhy::Empty => "Empty",
             PolicyWhy::SameName => "SameName",
             PolicyWhy::SameDomain => "SameDomain",
+            PolicyWhy::SameSemaphore => "SameSemaphore",
+            PolicyWhy::NoSide => "NoSide",
+            PolicyWhy::SameSide => "SameSide",
+            PolicyWhy::SameFlow => "SameFlow",
             PolicyWhy::TooMany => "TooMany",
         })
     }
@@ -68,7 +85,7 @@ impl From<AllocError> for PolicyFault {
 }
 
 impl PolicyWhy {
-    /// The fault of a line.
+    /// The fault of line `line`.
     pub(crate) fn at(self, line: u64) -> PolicyFault
         ensures { result ≡ PolicyFault.At line self }
     {

@@ -1,4 +1,5 @@
-//! Policies of sides: which protection domains are trusted, and which are one side, as the lines of a text say it.
+//! Policies of sides: which protection domains are trusted, which are one side, which semaphores sides share, and what flows from one to another, as the
+//! lines of a text say it.
 #![tactic(auto)]
 
 mod fault;
@@ -9,4 +10,4 @@ mod statement;
 
 pub use fault::{PolicyFault, PolicyWhy};
 pub use policy::Policy;
-pub use statement::Statement;
+pub use statement::{Flow, Statement};

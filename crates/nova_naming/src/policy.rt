@@ -1,17 +1,17 @@
-ghost use Rattle.std.specs.Prelude.{◌≡◌, ◌++◌, ◌<◌, ◌^◌, ◌∷◌, [], IfOk, None, OnOk, Some, length, option_map, string_bytes};
+ghost use Rattle.std.specs.Prelude.{◌≡◌, ◌++◌, ◌<◌, ◌^◌, ◌∷◌, [], IfNone, IfOk, None, OnOk, Some, length, option_map, string_bytes};
 ghost use Rattle.std.specs.List.{list_any};
 ghost use Rattle.nova_text.specs.Line.{row_of};
-ghost use Rattle.nova_naming.specs.Labels.{label_of, side_text};
-ghost use Rattle.nova_naming.specs.Policy.{AddsLine, Gives, clash, is_named, is_taken, policy_of, repeats};
+ghost use Rattle.nova_naming.specs.Labels.{flow_by, flows_of, label_called, label_of, semaphores_of, side_text};
+ghost use Rattle.nova_naming.specs.Policy.{AddsLine, Gives, clash, flow_clash, flows_so, is_full, is_named, is_shared, is_taken, policy_of, repeats};
 
 use crate::fault::{PolicyFault, PolicyWhy};
 use crate::lines::read_line;
-use crate::statement::{Statement, is_among};
+use crate::statement::{Flow, Statement, is_among};
 use nova_text::{Line, Lines};
 use std::alloc::{AllocError, Global};
 use std::marker::Model;
 
-/// The most lines that name domains.
+/// The most lines that say something.
 const MOST: usize = 1000;
 
 /// What the lines of a policy say. A domain that none of them names is a side of its own.
@@ -31,18 +31,34 @@ impl Model for Policy {
     ghost invariant = { λ p. length p.statements.items ≤ 1000 };
 }
 
-/// Whether one of some lines names a domain.
+/// Whether one of the lines `policy` names `domain`.
 fn is_named(policy: &[Statement], domain: u32) -> bool
     ensures { result ≡ is_named policy.now domain }
 {
     policy.iter().any(|statement| statement.names(domain))
 }
 
-/// Whether one of some lines names one of some domains.
+/// Whether one of the lines `policy` names one of `domains`.
 fn are_named(policy: &[Statement], domains: &[u32]) -> bool
     ensures { result ≡ list_any (is_named policy.now) domains.now }
 {
     domains.iter().any(|&domain| is_named(policy, domain))
+}
+
+/// Whether one of some lines says that sides share a semaphore.
+fn is_shared(policy: &[Statement], semaphore: u32) -> bool
+    ensures { result ≡ is_shared policy.now semaphore }
+{
+    policy.iter().any(|statement| statement.shares(semaphore))
+}
+
+/// Whether one of some lines says it of one of some semaphores.
+fn are_shared(policy: &[Statement], semaphores: &[u32]) -> bool
+    ensures { result ≡ list_any (is_shared policy.now) semaphores.now }
+{
+    semaphores
+        .iter()
+        .any(|&semaphore| is_shared(policy, semaphore))
 }
 
 /// Whether one of some lines has a name.
@@ -52,7 +68,7 @@ fn is_called(policy: &[Statement], name: &str) -> bool
     policy.iter().any(|statement| statement.is_called(name))
 }
 
-/// Whether one of some lines has the name of a side.
+/// Whether one of the lines `policy` has the name of `side`.
 fn is_taken(policy: &[Statement], side: Option<&str>) -> bool
     ensures { result ≡ is_taken policy.now (option_map (λ name. name.now) side.entry) }
 {
@@ -62,7 +78,7 @@ fn is_taken(policy: &[Statement], side: Option<&str>) -> bool
     }
 }
 
-/// Whether a number stands twice among some.
+/// Whether a number stands twice among `domains`.
 fn repeats(domains: &[u32]) -> bool
     ensures { result ≡ repeats domains.now }
 {
@@ -76,25 +92,64 @@ fn repeats(domains: &[u32]) -> bool
     false
 }
 
-/// Why what a line says can't stand behind some lines, if it can't.
-fn clash(policy: &[Statement], statement: &Statement) -> Option<PolicyWhy>
-    ensures { result ≡ clash policy.now statement.now }
+/// Whether one of some lines says a flow.
+fn is_said(policy: &[Statement], flow: &Flow) -> bool
+    ensures { result ≡ list_any (flows_so flow.now) policy.now }
 {
-    if is_taken(policy, statement.side.as_deref()) {
-        Some(PolicyWhy::SameName)
-    } else if are_named(policy, &statement.domains) || repeats(&statement.domains) {
-        Some(PolicyWhy::SameDomain)
-    } else if policy.len() >= MOST {
+    policy.iter().any(|statement| statement.flows_so(flow))
+}
+
+/// Why a flow can't stand behind some lines, if it can't.
+fn flow_clash(policy: &[Statement], flow: Option<&Flow>) -> Option<PolicyWhy>
+    ensures { result ≡ flow_clash policy.now (option_map (λ f. f.now) flow.entry) }
+{
+    let flow = flow?;
+    let (from, to) = (flow.from.as_str(), flow.to.as_str());
+    if !(is_called(policy, from) && is_called(policy, to)) {
+        Some(PolicyWhy::NoSide)
+    } else if from == to {
+        Some(PolicyWhy::SameSide)
+    } else if is_said(policy, flow) {
+        Some(PolicyWhy::SameFlow)
+    } else {
+        None
+    }
+}
+
+/// Whether there are too many lines for one more.
+fn is_full(policy: &[Statement]) -> Option<PolicyWhy>
+    ensures why { result ≡ is_full policy.now }
+    ensures room { IfNone result (length policy.now < 1000) }
+{
+    if policy.len() >= MOST {
         Some(PolicyWhy::TooMany)
     } else {
         None
     }
 }
 
+/// Why `statement` can't stand behind the lines `policy`, if it can't.
+fn clash(policy: &[Statement], statement: &Statement) -> Option<PolicyWhy>
+    ensures why { result ≡ clash policy.now statement.now }
+    ensures room { IfNone result (length policy.now < 1000) }
+{
+    if is_taken(policy, statement.side.as_deref()) {
+        Some(PolicyWhy::SameName)
+    } else if are_named(policy, &statement.domains) || repeats(&statement.domains) {
+        Some(PolicyWhy::SameDomain)
+    } else if are_shared(policy, &statement.semaphores) || repeats(&statement.semaphores) {
+        Some(PolicyWhy::SameSemaphore)
+    } else if let Some(why) = flow_clash(policy, statement.flow.as_ref()) {
+        Some(why)
+    } else {
+        is_full(policy)
+    }
+}
+
 impl Policy {
-    /// The policy that names nothing but what is trusted: one domain.
+    /// The policy that names nothing but `domain`, which is trusted.
     pub fn trusting(alloc: Global, domain: u32) -> Result<Policy, AllocError>
-        ensures { IfOk result (λ policy. policy ≡ record { line = 1; side = None; domains = domain ∷ [] } ∷ []) }
+        ensures { IfOk result (λ policy. policy ≡ record { line = 1; side = None; domains = domain ∷ []; semaphores = []; flow = None } ∷ []) }
     {
         let mut domains = Vec::new(alloc);
         domains.push(domain)?;
@@ -103,6 +158,8 @@ impl Policy {
             line: 1,
             side: None,
             domains,
+            semaphores: Vec::new(alloc),
+            flow: None,
         })?;
         Ok(Policy { statements })
     }
@@ -115,7 +172,7 @@ impl Policy {
         Ok(())
     }
 
-    /// Adds what a line says.
+    /// Adds what `line` says.
     fn add_line(&mut self, alloc: Global, line: Line) -> Result<(), PolicyFault>
         ensures { AddsLine self.old (row_of line.entry) self.new result }
     {
@@ -130,9 +187,10 @@ impl Policy {
         Ok(self.push(statement)?)
     }
 
-    /// Reads a policy: lines `trusted DOMAIN..` and `side NAME DOMAIN..`, where domains are object numbers below 2^32, in decimal or behind
-    /// `0x` in hexadecimal, and a comment runs from `#` to the end of a line. Of at most 1,000 lines that name domains each names one or more, and
-    /// none is named twice; the names of sides differ. A name is a letter and up to 31 letters, digits, `-` and `_`, but not `trusted`.
+    /// Reads a policy: lines `trusted DOMAIN..`, `side NAME DOMAIN..`, `shared SEMAPHORE..` and `flow NAME NAME`, where domains and semaphores are object
+    /// numbers below 2^32, in decimal or behind `0x` in hexadecimal, and a comment runs from `#` to the end of a line. There are at most 1,000 such lines.
+    /// Each of the first three names one or more, and none is named twice; the names of sides differ. A name is a letter and up to 31 letters, digits,
+    /// `-` and `_`, but not `trusted`. A flow is from a side to another, both of lines before it, and is said once.
     ///
     /// `At` comes exactly where the text is no policy, and names the first line at fault with its first fault. `Memory` comes where memory is
     /// refused.
@@ -150,14 +208,60 @@ impl Policy {
         Ok(policy)
     }
 
-    /// What its lines say, in order.
+    /// What the lines of the policy say, in order.
     pub fn statements(&self) -> &[Statement]
         ensures { result.now ≡ self.now }
     {
         &self.statements
     }
 
-    /// The label of a domain: 0 where it is trusted; for the side of a line the line's place among those that name domains, from 1; and where no
+    /// The semaphores that sides share on purpose, as its lines name them.
+    pub fn semaphores(&self, alloc: Global) -> Result<Vec<u32>, AllocError>
+        ensures { IfOk result (λ semaphores. semaphores.items ≡ semaphores_of self.now) }
+    {
+        let mut semaphores = Vec::new(alloc);
+        for statement in &self.statements {
+            semaphores.extend_from_slice(&statement.semaphores)?;
+        }
+        Ok(semaphores)
+    }
+
+    /// The label of the side of a name: the place of its line, from 1; 0 where no line has it.
+    fn label_called(&self, name: &str) -> u32
+        ensures { result ≡ label_called self.now name.now }
+    {
+        for (i, statement) in self.statements.iter().enumerate() {
+            if statement.is_called(name) {
+                return i as u32 + 1;
+            }
+        }
+        0
+    }
+
+    fn push_flow(&self, flows: &mut Vec<(u32, u32)>, flow: &Option<Flow>) -> Result<(), AllocError>
+        ensures { OnOk result (flows.new.items ≡ flows.old.items ++ flow_by self.now flow.now) }
+    {
+        if let Some(flow) = flow {
+            let from = self.label_called(flow.from.as_str());
+            let to = self.label_called(flow.to.as_str());
+            flows.push((from, to))?;
+        }
+        Ok(())
+    }
+
+    /// The one-way flows of memory between its sides, as its lines say them: of each the label of the side that may write, and that of the side that may
+    /// reach what it writes.
+    pub fn flows(&self, alloc: Global) -> Result<Vec<(u32, u32)>, AllocError>
+        ensures { IfOk result (λ flows. flows.items ≡ flows_of self.now) }
+    {
+        let mut flows = Vec::new(alloc);
+        for statement in &self.statements {
+            self.push_flow(&mut flows, &statement.flow)?;
+        }
+        Ok(flows)
+    }
+
+    /// The label of a domain: 0 where it is trusted; for the side of a line the line's place among those of the policy, from 1; and where no
     /// line names it, its own number behind these.
     #[tactic(auto, unfolding(crate::specs::Labels::label_of))]
     pub fn label_of(&self, domain: u32) -> u32
@@ -172,7 +276,7 @@ impl Policy {
         self.statements.len() as u32 + 1 + domain
     }
 
-    /// Writes what the side of a label is called: its name; the number of its domain, where that is no line's; or `trusted`.
+    /// Writes what the side of `label` is called: its name; the number of its domain, where that is no line's; or `trusted`.
     pub fn write_side(&self, out: &mut String, label: u32) -> Result<(), AllocError>
         ensures { OnOk result (string_bytes out.new ≡ string_bytes out.old ++ side_text self.now label) }
     {

@@ -106,7 +106,7 @@ module _ {D O : Type 0} (d : Depots D) (o : Sinks O) (q : Request) (old new : D)
   faulty (exit.Order fault) is = is
   faulty (exit.Idle line) is = is
   faulty (exit.Policy line why) is = is
-  faulty (exit.NoDomain line domain) is = is
+  faulty (exit.Misnamed line expected number) is = is
   faulty exit.Memory is = is
 
   -- what was told was sent
@@ -121,7 +121,7 @@ module _ {D O : Type 0} (d : Depots D) (o : Sinks O) (q : Request) (old new : D)
   sent t (exit.Order fault) told out = absurd out
   sent t (exit.Idle line) told out = absurd out
   sent t (exit.Policy line why) told out = absurd out
-  sent t (exit.NoDomain line domain) told out = absurd out
+  sent t (exit.Misnamed line expected number) told out = absurd out
   sent t exit.Memory told out = absurd out
 
 -- then something is written
@@ -135,5 +135,5 @@ written o t (exit.Scenario line why) before after is un = absurd is
 written o t (exit.Order fault) before after is un = absurd is
 written o t (exit.Idle line) before after is un = absurd is
 written o t (exit.Policy line why) before after is un = absurd is
-written o t (exit.NoDomain line domain) before after is un = absurd is
+written o t (exit.Misnamed line expected number) before after is un = absurd is
 written o t exit.Memory before after is un = absurd is

@@ -35,7 +35,7 @@ one_more most n c xs first next is more =
     more ∙ (λ i. is i ++ replicate (min n (left i)) c) ∙ ap (λ zs. take most xs ++ zs) (sym (first_same (most - length xs) n c))
     ∙ sym (split most xs (replicate n c) (nat_le (length xs) most) refl)
 
--- the blocks so far, and the next one
+-- the blocks so far, and the next
 pub with_block : (most : ℕ) (done : List Block) (b : Block) (first next : List Block) → turns first ≡ take most (turns done) → turns next ≡ turns first ++ replicate (min b.count (most - total first)) b.cpu
     → turns next ≡ take most (turns (done ++ b ∷ []))
 with_block most done b first next is more =

@@ -1,4 +1,5 @@
 pub mod FirstTurns
 pub mod Ran
+pub mod Flowing
 pub mod Answering
 pub mod Loaded

@@ -1,5 +1,5 @@
 -- The turns that were taken, and what is decided of them.
-use Rattle.std.proofs.Common.{◌≡◌, ℕ, Bool, ◌+◌, ◌<◌, ◌≤◌, List, [], ◌∷◌, length, take, Option, Some, None, Result, Ok, Err, inl, inr, refl, sym, subst, arith, append-nil, string_bytes}
+use Rattle.std.proofs.Common.{◌≡◌, ℕ, Bool, false, ◌+◌, ◌<◌, ◌≤◌, List, [], ◌∷◌, length, take, Option, Some, None, Result, Ok, Err, inl, inr, refl, sym, subst, arith, append-nil, string_bytes}
 use Rattle.std.specs.Prelude.{IfErr, IfOk}
 use Rattle.std.specs.List.{AllByRecursion}
 use Rattle.law_turns.specs.Orders.{IsRunOut}
@@ -8,16 +8,14 @@ use Rattle.nova_model.specs.Runs.{IsFreeOfIdle, after, rounds, run}
 use Rattle.nova_model.specs.State.{KernelState}
 use Rattle.nova_order.specs.Blocks.{BlockList, IsOrder, turns}
 use Rattle.nova_order.specs.declared.block.Block.{Block}
-use Rattle.nova_judging.specs.declared.answer.Answer.{Answer}
 use Rattle.nova_judging.specs.declared.answer.Told.{Told as Answered}
 use Rattle.nova_naming.specs.Statements.{Stated}
-use Rattle.nova_shared.specs.Finished.{IsFinished}
-use Rattle.nova_shared.specs.declared.finished.Finished.{Finished}
+use Rattle.nova_finished.specs.Finished.{IsFinished}
+use Rattle.nova_finished.specs.declared.finished.Finished.{Finished}
 use Rattle.nova_watching.specs.Watched.{AreIsolatedBefore, IsBrokenOn, IsTold}
-use Rattle.nova_policy_top.specs.Flows.{AreFlowsIf, HasLines}
-use Rattle.nova_policy_top.specs.Runs.{HasNoStranger, HasRun, HasTaken, IsAnsweredOn, IsDecided, IsDecidedOn, IsMisnamed, IsNotRun, IsStopped, IsStrange, IsToldOn, IsUndecided, IsUntoldOn, first_turns}
+use Rattle.nova_policy_top.specs.Runs.{HasNoStranger, HasRun, HasTaken, IsAnsweredOn, IsDecided, IsDecidedOn, IsMisnamed, IsNotRun, IsStopped, IsStrange, IsUndecided, IsUntoldOn, first_turns, told_turns}
 use Rattle.nova_policy_top.specs.declared.exit.Exit.{Exit}
-use Rattle.nova_policy_top.specs.declared.exit.Exit.TheVariants.{Told, Usage, ReadFault, TooLong, Scenario as ScenarioFault, Order, Idle, Policy, NoDomain, WriteFault, Memory}
+use Rattle.nova_policy_top.specs.declared.exit.Exit.TheVariants.{Told, Usage, ReadFault, TooLong, Scenario as ScenarioFault, Order, Idle, Policy, Misnamed, WriteFault, Memory}
 use Rattle.nova_policy_top.specs.declared.request.Span.{Span}
 
 pub by_rounds : (s : Scenario) (at most : ℕ) (k : KernelState) (f : Finished) → at ≤ 10000000 → k ≡ boot s → most ≡ at → IsFinished k (rounds k most) most f
@@ -44,7 +42,7 @@ stopped k order first at (TooLong input) sound of is = is
 stopped k order first at (ScenarioFault line why) sound of is = is
 stopped k order first at (Order fault) sound of is = is
 stopped k order first at (Policy line why) sound of is = is
-stopped k order first at (NoDomain line domain) sound of is = is
+stopped k order first at (Misnamed line expected number) sound of is = is
 stopped k order first at WriteFault sound of is = is
 
 pub stopped_by : (k : KernelState) (order : BlockList) (first : List Block) (at : ℕ) (r : Result Finished Exit) → IsOrder first → turns first ≡ take at (turns order.blocks) → IfErr r (IsNotRun k first)
@@ -66,7 +64,7 @@ only_memory k at (Err e) is = subst (IsStopped k None at) (sym is) tt
 -- of a run of turns
 module _ (k now : KernelState) (list : List ℕ) (policy : Option (List Stated)) (from : ℕ) (free : IsFreeOfIdle k list) (ran : now ≡ run k list) where
   misnamed : (e : Exit) → IsMisnamed policy now e → IsUntoldOn k list policy e
-  misnamed (NoDomain line domain) is = record { no_idle = free; strange = subst (λ (s : KernelState). IsStrange policy s line domain) ran is }
+  misnamed (Misnamed line expected number) is = record { no_idle = free; strange = subst (λ (s : KernelState). IsStrange policy s line expected number) ran is }
   misnamed Memory is = tt
   misnamed (Told answer) is = is
   misnamed Usage is = is
@@ -107,39 +105,30 @@ module _ (k now : KernelState) (list : List ℕ) (policy : Option (List Stated))
     first = inl refl;
   }
 
--- with the lines of flows after it
-pub answered : (k now : KernelState) (list : List ℕ) (policy : Option (List Stated)) (from : ℕ) (flow : Bool) (first t : Answered) (lines : List ℕ) → now ≡ run k list
-    → IsDecidedOn k list policy from (Ok first) → AreFlowsIf flow policy now lines → HasLines first lines t → IsAnsweredOn k list policy from flow (Ok t)
-answered k now list policy from flow first t lines ran told flows with = record {
-  first = string_bytes first.text;
-  lines = lines;
-  whole = with.text;
-  told = subst (λ (a : Answer). IsToldOn k list policy from a (string_bytes first.text)) (sym with.answer) told;
-  flows = subst (λ (s : KernelState). AreFlowsIf flow policy s lines) ran flows;
-}
+-- without flows
+pub without_flows : (k : KernelState) (list : List ℕ) (policy : Option (List Stated)) (from : ℕ) (r : Result Answered Exit) → IsDecidedOn k list policy from r → IsAnsweredOn k list policy from false r
+without_flows k list policy from (Ok t) told = record { first = string_bytes t.text; lines = []; whole = sym (append-nil (string_bytes t.text)); told = told; flows = refl }
+without_flows k list policy from (Err e) fault = fault
 
-pub unanswered : (k : KernelState) (list : List ℕ) (policy : Option (List Stated)) (from : ℕ) (flow : Bool) (e : Exit) (r : Result Answered Exit) → r ≡ Err e → IsUntoldOn k list policy e
-    → IsAnsweredOn k list policy from flow r
-unanswered k list policy from flow e r is fault = subst (IsAnsweredOn k list policy from flow) (sym is) fault
-
--- no turn is one after so many
+-- no turn is after `from`
 pub none_late : (policy : Option (List Stated)) (from : ℕ) (k : KernelState) (n : ℕ) (list : List ℕ) → n + length list ≤ from → AreIsolatedBefore policy from k n list
 none_late policy from k n [] few = tt
 none_late policy from k n (cpu ∷ cpus) few = (λ late. absurd (omega arith), none_late policy from (after k cpu) (n + 1) cpus (omega arith))
 
 -- of the turns that are asked for
-untold : (k : KernelState) (order : Option BlockList) (policy : Option (List Stated)) (span : Span) (e : Exit) → IsUntoldOn k (first_turns k order span.until) policy e → IsUndecided k order policy span e
-untold k order policy span (NoDomain line domain) is = is
-untold k order policy span Memory is = tt
-untold k order policy span (Told answer) is = is
-untold k order policy span Usage is = is
-untold k order policy span ReadFault is = is
-untold k order policy span (TooLong input) is = is
-untold k order policy span (ScenarioFault line why) is = is
-untold k order policy span (Order fault) is = is
-untold k order policy span (Idle line) is = absurd is
-untold k order policy span (Policy line why) is = is
-untold k order policy span WriteFault is = is
+untold : (k : KernelState) (order : Option BlockList) (policy : Option (List Stated)) (span : Span) (flow : Bool) (e : Exit) →
+    IsUntoldOn k (told_turns flow span.from (first_turns k order span.until)) policy e → IsUndecided k order policy span flow e
+untold k order policy span flow (Misnamed line expected number) is = is
+untold k order policy span flow Memory is = tt
+untold k order policy span flow (Told answer) is = is
+untold k order policy span flow Usage is = is
+untold k order policy span flow ReadFault is = is
+untold k order policy span flow (TooLong input) is = is
+untold k order policy span flow (ScenarioFault line why) is = is
+untold k order policy span flow (Order fault) is = is
+untold k order policy span flow (Idle line) is = absurd is
+untold k order policy span flow (Policy line why) is = is
+untold k order policy span flow WriteFault is = is
 
 pub decided_by : (k : KernelState) (order : Option BlockList) (policy : Option (List Stated)) (span : Span) (flow : Bool) (f : Finished) (from : ℕ) (r : Result Answered Exit) → HasRun k order span.until f → from ≡ span.from
     → IsAnsweredOn k (turns f.order.blocks) policy from flow r → IsDecided k order policy span flow r
@@ -148,24 +137,24 @@ decided_by k order policy span flow f from r ran same is =
   where
     by_result : (q : Result Answered Exit) → IsAnsweredOn k (first_turns k order span.until) policy span.from flow q → IsDecided k order policy span flow q
     by_result (Ok t) told = told
-    by_result (Err e) fault = untold k order policy span e fault
+    by_result (Err e) fault = untold k order policy span flow e fault
 
 pub taken_by : (k : KernelState) (list : List ℕ) (f : Finished) → HasTaken k list f → HasTaken k (turns f.order.blocks) f
 taken_by k list f ran = subst (λ (l : List ℕ). HasTaken k l f) (sym ran.order) ran
 
-stops : (k : KernelState) (order : Option BlockList) (policy : Option (List Stated)) (span : Span) (e : Exit) → IsStopped k order span.until e → IsUndecided k order policy span e
-stops k order policy span (Idle line) is = is
-stops k order policy span Memory is = tt
-stops k order policy span (Told answer) is = is
-stops k order policy span Usage is = is
-stops k order policy span ReadFault is = is
-stops k order policy span (TooLong input) is = is
-stops k order policy span (ScenarioFault line why) is = is
-stops k order policy span (Order fault) is = is
-stops k order policy span (Policy line why) is = is
-stops k order policy span (NoDomain line domain) is = absurd is
-stops k order policy span WriteFault is = is
+stops : (k : KernelState) (order : Option BlockList) (policy : Option (List Stated)) (span : Span) (flow : Bool) (e : Exit) → IsStopped k order span.until e → IsUndecided k order policy span flow e
+stops k order policy span flow (Idle line) is = is
+stops k order policy span flow Memory is = tt
+stops k order policy span flow (Told answer) is = is
+stops k order policy span flow Usage is = is
+stops k order policy span flow ReadFault is = is
+stops k order policy span flow (TooLong input) is = is
+stops k order policy span flow (ScenarioFault line why) is = is
+stops k order policy span flow (Order fault) is = is
+stops k order policy span flow (Policy line why) is = is
+stops k order policy span flow (Misnamed line expected number) is = absurd is
+stops k order policy span flow WriteFault is = is
 
 pub stops_by : (k : KernelState) (order : Option BlockList) (policy : Option (List Stated)) (span : Span) (flow : Bool) (e : Exit) (r : Result Answered Exit) → r ≡ Err e → IsStopped k order span.until e
     → IsDecided k order policy span flow r
-stops_by k order policy span flow e r is stopped = subst (IsDecided k order policy span flow) (sym is) (stops k order policy span e stopped)
+stops_by k order policy span flow e r is stopped = subst (IsDecided k order policy span flow) (sym is) (stops k order policy span flow e stopped)

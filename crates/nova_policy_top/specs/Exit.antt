@@ -11,10 +11,10 @@ use Rattle.nova_loading.specs.declared.unread.ScenarioUnread.{ScenarioUnread}
 use Rattle.nova_loading.specs.declared.unread.ScenarioUnread.TheVariants as text
 use Rattle.nova_naming.specs.declared.fault.PolicyFault.{PolicyFault}
 use Rattle.nova_naming.specs.declared.fault.PolicyFault.TheVariants as policy
-use Rattle.nova_shared.specs.declared.fault.RunFault.{RunFault}
-use Rattle.nova_shared.specs.declared.fault.RunFault.TheVariants as turn
+use Rattle.nova_finished.specs.declared.fault.RunFault.{RunFault}
+use Rattle.nova_finished.specs.declared.fault.RunFault.TheVariants as turn
 use Rattle.nova_policy_top.specs.declared.exit.Exit.{Exit}
-use Rattle.nova_policy_top.specs.declared.exit.Exit.TheVariants.{Told, Usage, ReadFault, TooLong, Scenario, Order, Idle, Policy, NoDomain, WriteFault, Memory}
+use Rattle.nova_policy_top.specs.declared.exit.Exit.TheVariants.{Told, Usage, ReadFault, TooLong, Scenario, Order, Idle, Policy, Misnamed, WriteFault, Memory}
 use Rattle.nova_policy_top.specs.declared.exit.Input.TheVariants as input
 
 abbrev pub status_of : Exit → ℕ
@@ -33,7 +33,7 @@ status_of (Idle line) = 5
 status_of WriteFault = 6
 status_of (TooLong input.Policy) = 7
 status_of (Policy line why) = 7
-status_of (NoDomain line domain) = 7
+status_of (Misnamed line expected number) = 7
 status_of Memory = 8
 
 -- the words ask for nothing, or memory was refused for them
@@ -78,5 +78,5 @@ IsUnwritten (Scenario line why) = Unit {0}
 IsUnwritten (Order fault) = Unit {0}
 IsUnwritten (Idle line) = Unit {0}
 IsUnwritten (Policy line why) = Unit {0}
-IsUnwritten (NoDomain line domain) = Unit {0}
+IsUnwritten (Misnamed line expected number) = Unit {0}
 IsUnwritten Memory = Unit {0}

@@ -45,7 +45,7 @@ pub record IsUnanswered {D : Type 0} (d : Depots D) (q : Request) (old new : D) 
   pub order : Option BlockList
   pub policy : Option (List Stated)
   pub came : AllCame d q old from order policy new
-  pub fault : IsUndecided (boot (scenario_of from)) order policy q.span exit
+  pub fault : IsUndecided (boot (scenario_of from)) order policy q.span q.flow exit
 
 -- why nothing is told
 abbrev pub IsFault : {D : Type 0} → Depots D → Request → D → D → Exit → Type 0

@@ -3,7 +3,7 @@ ghost use Rattle.nova_policy_top.specs.Exit.{of_policy_fetch, status_of};
 
 use nova_command::CommandFault;
 use nova_io::FetchFault;
-use nova_judging::Answer;
+use nova_judging::{Answer, Expected};
 use nova_loading::{OrderUnread, ScenarioUnread};
 use nova_naming::{PolicyFault, PolicyWhy};
 use nova_order::OrderFault;
@@ -49,7 +49,10 @@ pub enum Exit {
 
     /// The scenario is refused, at its first line at fault, from 1. Nothing is written.
     #[error("scenario line {line}: {why}")]
-    Scenario { line: u64, why: Why },
+    Scenario {
+        line: u64,
+        why: Why,
+    },
 
     /// The order is refused, at its first line at fault. Nothing is written.
     #[error("order {0}")]
@@ -61,11 +64,18 @@ pub enum Exit {
 
     /// The policy is refused, at its first line at fault, from 1. Nothing is written.
     #[error("policy line {line}: {why}")]
-    Policy { line: u64, why: PolicyWhy },
+    Policy {
+        line: u64,
+        why: PolicyWhy,
+    },
 
-    /// The policy names what is no protection domain after the last turn: its first such number, and the line. Nothing is written.
-    #[error("policy line {line}: NoDomain {domain}")]
-    NoDomain { line: u64, domain: u32 },
+    /// The policy names as a protection domain or as a semaphore what is none after the last turn: its first such number, and the line. Nothing is written.
+    #[error("policy line {line}: {expected} {number}")]
+    Misnamed {
+        line: u64,
+        expected: Expected,
+        number: u32,
+    },
 
     /// The text could not be written whole. What is written is the beginning of it.
     #[error("write fault")]
@@ -76,7 +86,7 @@ pub enum Exit {
     Memory,
 }
 
-/// The status of an answer.
+/// The status of `answer`.
 fn status_of_answer(answer: Answer) -> u8
     ensures { result ≡ status_of (Exit.Told answer) }
 {
@@ -89,7 +99,7 @@ fn status_of_answer(answer: Answer) -> u8
     }
 }
 
-/// The status where a file is refused.
+/// The status where the file `input` is refused.
 fn status_of_input(input: Input) -> u8
     ensures { result ≡ status_of (Exit.TooLong input) }
 {
@@ -101,7 +111,7 @@ fn status_of_input(input: Input) -> u8
 }
 
 impl Exit {
-    /// How a call ends where a policy did not come.
+    /// How a call ends where a policy did not come, by `fault`.
     pub(crate) fn of_policy_fetch(fault: FetchFault) -> Exit
         ensures { result ≡ of_policy_fetch fault }
     {
@@ -124,7 +134,7 @@ impl Exit {
             Exit::Scenario { .. } => 4,
             Exit::Order(_) | Exit::Idle(_) => 5,
             Exit::WriteFault => 6,
-            Exit::Policy { .. } | Exit::NoDomain { .. } => 7,
+            Exit::Policy { .. } | Exit::Misnamed { .. } => 7,
             Exit::Memory => 8,
         }
     }

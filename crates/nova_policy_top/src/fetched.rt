@@ -35,7 +35,7 @@ fn fetch_order<D: Depot>(
     }
 }
 
-/// Fetches a policy, and reads it.
+/// Fetches the file `name`, and reads it as a policy.
 fn fetch_policy<D: Depot>(alloc: Global, depot: &mut D, name: &Name) -> Result<Policy, Exit>
     ensures read { IsPolicyRead (depots D.files D.gave D.fetch_failed D.fetch_faults D.took D.append_failed D.append_faults) name.now depot.old depot.new result }
     ensures counts { NeverFalls (D.fetch_faults depot.old) (D.fetch_faults depot.new) }
@@ -47,7 +47,7 @@ fn fetch_policy<D: Depot>(alloc: Global, depot: &mut D, name: &Name) -> Result<P
     Ok(Policy::read(alloc, &bytes)?)
 }
 
-/// Fetches an order where one is named.
+/// Fetches the order `name`, where that is given, and reads it.
 pub fn fetch_order_if_named<D: Depot>(
     alloc: Global,
     depot: &mut D,
@@ -64,7 +64,7 @@ pub fn fetch_order_if_named<D: Depot>(
     }
 }
 
-/// Fetches a policy where one is named.
+/// Fetches the policy `name`, where that is given, and reads it.
 pub fn fetch_policy_if_named<D: Depot>(
     alloc: Global,
     depot: &mut D,

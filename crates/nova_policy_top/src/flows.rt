@@ -1,13 +1,12 @@
-// Lines that tell of each side whether the premises of noninterference on divided processors hold.
-ghost use Rattle.std.specs.Prelude.{◌≡◌, ◌≤◌, ◌<◌, ◌^◌, IfOk, length, string_bytes};
-ghost use Rattle.law_sides.specs.Tied.{ties};
-ghost use Rattle.nova_judging.specs.Answers.{AreSettled};
+// Lines that tell of each side whether the premises of noninterference on divided processors hold, and until when it is at work.
+ghost use Rattle.std.specs.Prelude.{◌≡◌, ◌≤◌, ◌<◌, ◌^◌, [], IfOk, length, string_bytes};
+ghost use Rattle.nova_judging.specs.Answers.{AreSettled, ties_beside};
 ghost use Rattle.nova_judging.specs.Labelled.{labelled, labels_of};
 ghost use Rattle.nova_flowing.specs.Lines.{flow_lines};
 ghost use Rattle.nova_watching.specs.Watched.{trusted_root};
-ghost use Rattle.nova_policy_top.specs.Flows.{AreFinestFlows, AreFlows, AreFlowsIf};
+ghost use Rattle.nova_policy_top.specs.Flows.{AreFinestFlows, AreFlows};
 
-use nova_flowing::write_flows;
+use nova_flowing::{Lapse, write_flows};
 use nova_kernel::{Kernel, Object};
 use nova_naming::Policy;
 use nova_sides::{derivations_of, ties};
@@ -17,7 +16,7 @@ use std::alloc::{AllocError, Global};
 /// The most objects of a state that is judged.
 const MOST: usize = 1 << 31;
 
-/// The label of an object.
+/// The label of `object`.
 fn labelled(policy: &Policy, n: u32, object: Object) -> u32
     requires { n < 2 ^ 31 }
     ensures { result ≡ labelled policy.now (n, object) }
@@ -28,7 +27,7 @@ fn labelled(policy: &Policy, n: u32, object: Object) -> u32
     }
 }
 
-/// The labels that a policy gives to the objects of a kernel.
+/// The labels that `policy` gives to the objects of `kernel`.
 #[tactic(auto, unfolding(nova_judging::specs::Labelled::labels_of))]
 fn labels_of(alloc: Global, policy: &Policy, kernel: &Kernel) -> Result<Vec<u32>, AllocError>
     requires few { length kernel.now.state.objects ≤ 2 ^ 31 }
@@ -46,90 +45,87 @@ fn flows_by(
     alloc: Global,
     policy: &Policy,
     kernel: &Kernel,
+    lapses: &[Lapse],
     labels: &[u32],
 ) -> Result<String, AllocError>
-    ensures { IfOk result (λ text. string_bytes text ≡ flow_lines policy.now kernel.now.state labels.now) }
+    ensures { IfOk result (λ text. string_bytes text ≡ flow_lines policy.now kernel.now.state lapses.now labels.now) }
 {
     if labels.len() > kernel.objects().len() {
         return Err(AllocError);
     }
     let list = derivations_of(alloc, kernel)?;
     let mut text = String::new(alloc);
-    write_flows(alloc, &mut text, policy, kernel, &list, labels)?;
+    write_flows(alloc, &mut text, policy, kernel, &list, lapses, labels)?;
     Ok(text)
 }
 
 /// The lines of the sides of a policy, as it names them.
-fn flows_named(alloc: Global, policy: &Policy, kernel: &Kernel) -> Result<String, AllocError>
+fn flows_named(
+    alloc: Global,
+    policy: &Policy,
+    kernel: &Kernel,
+    lapses: &[Lapse],
+) -> Result<String, AllocError>
     requires few { length kernel.now.state.objects ≤ 2 ^ 31 }
-    ensures { IfOk result (λ text. string_bytes text ≡ flow_lines policy.now kernel.now.state (labels_of policy.now kernel.now.state)) }
+    ensures { IfOk result (λ text. string_bytes text ≡ flow_lines policy.now kernel.now.state lapses.now (labels_of policy.now kernel.now.state)) }
 {
     let labels = labels_of(alloc, policy, kernel)?;
-    flows_by(alloc, policy, kernel, &labels)
+    flows_by(alloc, policy, kernel, lapses, &labels)
 }
 
-/// Joins sides to the finest that respect the ties of a state, or answers the tie for which there are none.
-fn settle_in(kernel: &Kernel, labels: &mut [u32], tied: &[Tie]) -> Option<Tie>
-    requires ties { tied.now ≡ ties kernel.now.state }
-    ensures { AreSettled kernel.now.state labels.old labels.new result }
+/// Joins sides to the finest that respect some ties, or answers the tie for which there are none.
+fn settle_in(labels: &mut [u32], tied: &[Tie]) -> Option<Tie>
+    ensures { AreSettled tied.now labels.old labels.new result }
 {
     settle(labels, tied)
 }
 
-/// The lines of the finest sides to which those of a policy can be joined, or none.
+/// The lines of the finest sides to which those of `policy` can be joined, or none.
 fn flows_settled(
     alloc: Global,
     policy: &Policy,
     kernel: &Kernel,
+    lapses: &[Lapse],
     tied: &[Tie],
     labels: &mut [u32],
 ) -> Result<String, AllocError>
-    requires ties { tied.now ≡ ties kernel.now.state }
+    requires ties { tied.now ≡ ties_beside [] policy.now kernel.now.state }
     requires labels { labels.old ≡ labels_of policy.now kernel.now.state }
-    ensures { IfOk result (λ text. AreFinestFlows policy.now kernel.now.state (string_bytes text)) }
+    ensures { IfOk result (λ text. AreFinestFlows policy.now kernel.now.state lapses.now (string_bytes text)) }
 {
-    match settle_in(kernel, labels, tied) {
+    match settle_in(labels, tied) {
         Some(_) => Ok(String::new(alloc)),
-        None => flows_by(alloc, policy, kernel, labels),
+        None => flows_by(alloc, policy, kernel, lapses, labels),
     }
 }
 
 /// The lines of the finest sides beside a trusted root, or none.
-fn flows_finest(alloc: Global, kernel: &Kernel) -> Result<String, AllocError>
+fn flows_finest(alloc: Global, kernel: &Kernel, lapses: &[Lapse]) -> Result<String, AllocError>
     requires few { length kernel.now.state.objects ≤ 2 ^ 31 }
-    ensures { IfOk result (λ text. AreFinestFlows trusted_root kernel.now.state (string_bytes text)) }
+    ensures { IfOk result (λ text. AreFinestFlows trusted_root kernel.now.state lapses.now (string_bytes text)) }
 {
     let policy = Policy::trusting(alloc, 0)?;
-    let tied = ties(alloc, kernel)?;
+    let shared = policy.semaphores(alloc)?;
+    let flows = Vec::new(alloc);
     let mut labels = labels_of(alloc, &policy, kernel)?;
-    flows_settled(alloc, &policy, kernel, &tied, &mut labels)
+    let tied = ties(alloc, kernel, &labels, &shared, &flows)?;
+    flows_settled(alloc, &policy, kernel, lapses, &tied, &mut labels)
 }
 
-/// The lines of the sides of a policy, or of the finest where there is no policy.
-fn flows_of(alloc: Global, policy: &Option<Policy>, kernel: &Kernel) -> Result<String, AllocError>
-    ensures { IfOk result (λ text. AreFlows policy.now kernel.now.state (string_bytes text)) }
+/// The lines of the sides of a policy, or of the finest where there is no policy, with until when they are at work.
+pub fn flows_of(
+    alloc: Global,
+    policy: &Option<Policy>,
+    kernel: &Kernel,
+    lapses: &[Lapse],
+) -> Result<String, AllocError>
+    ensures { IfOk result (λ text. AreFlows policy.now kernel.now.state lapses.now (string_bytes text)) }
 {
     if kernel.objects().len() > MOST {
         return Err(AllocError);
     }
     match policy {
-        Some(policy) => flows_named(alloc, policy, kernel),
-        None => flows_finest(alloc, kernel),
-    }
-}
-
-/// The lines, where they are asked for.
-pub fn flows_if(
-    alloc: Global,
-    flow: bool,
-    policy: &Option<Policy>,
-    kernel: &Kernel,
-) -> Result<String, AllocError>
-    ensures { IfOk result (λ text. AreFlowsIf flow policy.now kernel.now.state (string_bytes text)) }
-{
-    if flow {
-        flows_of(alloc, policy, kernel)
-    } else {
-        Ok(String::new(alloc))
+        Some(policy) => flows_named(alloc, policy, kernel, lapses),
+        None => flows_finest(alloc, kernel, lapses),
     }
 }

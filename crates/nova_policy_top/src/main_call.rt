@@ -13,7 +13,7 @@ use nova_judging::Told;
 use nova_loading::load_scenario;
 use std::alloc::Global;
 
-/// Reads what is asked for, and decides it.
+/// Reads what `request` asks for, and decides it.
 fn prepare<D: Depot>(alloc: Global, request: &Request, depot: &mut D) -> Result<Told, Exit>
     requires last { request.now.span.until ≤ 10000000 }
     ensures { IsPrepared (depots D.files D.gave D.fetch_failed D.fetch_faults D.took D.append_failed D.append_faults) request.now depot.old depot.new result }
@@ -31,7 +31,7 @@ fn prepare<D: Depot>(alloc: Global, request: &Request, depot: &mut D) -> Result<
     )
 }
 
-/// Writes what was told.
+/// Writes `told` to `out`.
 fn send<O: Sink>(out: &mut O, told: &Told) -> Exit
     ensures { IsSent (sinks O.written O.took O.write_failed O.faults) told.now result out.old out.new }
 {
@@ -41,7 +41,7 @@ fn send<O: Sink>(out: &mut O, told: &Told) -> Exit
     }
 }
 
-/// Decides what is asked for, and writes it.
+/// Decides what `request` asks for, and writes it.
 fn serve<D: Depot, O: Sink>(alloc: Global, request: &Request, depot: &mut D, out: &mut O) -> Exit
     requires last { request.now.span.until ≤ 10000000 }
     ensures answer { IsAnswer (depots D.files D.gave D.fetch_failed D.fetch_faults D.took D.append_failed D.append_faults) (sinks O.written O.took O.write_failed O.faults) request.now result depot.old depot.new out.old out.new }
@@ -62,15 +62,16 @@ fn serve<D: Depot, O: Sink>(alloc: Global, request: &Request, depot: &mut D, out
 /// sides of the policy are, as it names them; or, where no policy is named, the finest sides beside a trusted root. Without `--until` it is the
 /// state after the TURN of `--at`, or after 1,000,000. With it, it is the first state from that of `--at`, or from the boot, until that of
 /// `--until`, in which the sides aren't isolated; or the last, where they are in each. A run that ends before has its last state there.
-/// The answer is `Told` with what they are: isolated or not, and what is trusted at rest or not, both exactly. The text is then written, whole:
-/// the turns, the verdict with where its capabilities came from, the finest sides, the sides of each processor, and the ties of sides to other
-/// domains. `--flow` stands in place of `--at`, without `--until`, and tells after that of each side whether the premises of noninterference on
-/// divided processors hold of it in this state, or which one fails first.
+/// The answer is `Told` with what they are: isolated or not, and what is trusted at rest or not, both exactly. The text is then written, whole: the
+/// turns, the verdict with where its capabilities came from, the finest sides, what they share and what flows between them on purpose, the sides of
+/// each processor, and the ties of sides to other domains. `--flow` stands in place of `--at`: what is told is of the state after its TURN, and
+/// after it of each side whether the premises of noninterference on divided processors hold of it there, or which one fails first; and of a side of
+/// which they hold, until which turn of the run it is at work, up to that of `--until`, or to 1,000,000.
 ///
 /// Other answers, each with its cause: Usage exactly where the words ask for nothing. ReadFault only where the count of failed fetches of one of
 /// the names rose. TooLong where more bytes came than may; Scenario, Order and Policy where the bytes that came are none, with the first line
-/// at fault. Idle where one of the turns meets an idle processor, with the line of the order that has the first such turn. NoDomain where the
-/// policy names what is no protection domain in the last state, with the first such number and its line. WriteFault only where a write of the
+/// at fault. Idle where one of the turns meets an idle processor, with the line of the order that has the first such turn. Misnamed where the
+/// policy names as a protection domain or as a semaphore what is none in the last state, with the first such number and its line. WriteFault only where a write of the
 /// text failed; a part of it, from its first byte on, is then written. Memory may come in place of each. But for Told and WriteFault the sink is
 /// as before.
 pub fn policy_main<D: Depot, O: Sink>(

@@ -1,10 +1,10 @@
 // Words to a request.
-ghost use Rattle.std.specs.Prelude.{◌≡◌, ◌≤◌, IfOk, IfSome, Some, is_some, map, option_map, string_bytes};
+ghost use Rattle.std.specs.Prelude.{◌≡◌, ◌≤◌, IfOk, IfSome, None, Some, is_some, map, option_map, string_bytes};
 ghost use Rattle.clap.specs.Walk.{rows_of};
 ghost use Rattle.clap.specs.Matches.{found_of};
 ghost use Rattle.nova_command.specs.CommandFault.{Answers};
 ghost use Rattle.nova_policy_top.specs.Form.{given_in};
-ghost use Rattle.nova_policy_top.specs.Words.{asked, asked_of, between, flowed, span_of, spanned, turn_of, turn_or};
+ghost use Rattle.nova_policy_top.specs.Words.{asked, asked_of, between, flowed, flowed_on, span_of, spanned, turn_of, turn_or};
 
 use crate::form::matches_of;
 use clap::ArgMatches;
@@ -33,14 +33,15 @@ pub struct Request {
     /// The file of the policy. Where none is named, the root's domain is trusted, and the finest sides of all others are looked for.
     pub policy: Option<Name>,
 
-    /// Whether is told of each side in the last state if the premises of noninterference on divided processors hold of it.
+    /// Whether is told of each side if the premises of noninterference on divided processors hold of it after the first of the turns, and until which one
+    /// it is at work.
     pub flow: bool,
 }
 
 /// The last turn that may be asked for.
 const LAST_TURN: u32 = 10_000_000;
 
-/// The turn that a text writes.
+/// The turn that `text` writes.
 fn read_turn(text: &str) -> Option<u32>
     ensures exact { result ≡ turn_of text.now }
     ensures last { IfSome result (λ turn. turn ≤ 10000000) }
@@ -48,7 +49,7 @@ fn read_turn(text: &str) -> Option<u32>
     number_within(text, 0, LAST_TURN)
 }
 
-/// The turn that a text writes, or another one where there is no text.
+/// The turn that `text` writes, or `turn` where there is no text.
 fn turn_or(turn: u32, text: Option<&str>) -> Option<u32>
     requires { turn ≤ 10000000 }
     ensures exact { result ≡ turn_or turn (option_map (λ t. t.now) text.entry) }
@@ -60,7 +61,7 @@ fn turn_or(turn: u32, text: Option<&str>) -> Option<u32>
     }
 }
 
-/// From a turn on, until another, which isn't before it.
+/// The turns from `from` on, until `until`, which isn't before it.
 fn between(from: u32, until: u32) -> Option<Span>
     ensures exact { result ≡ between from until }
     ensures last { IfSome result (λ span. span.until ≡ until) }
@@ -72,7 +73,7 @@ fn between(from: u32, until: u32) -> Option<Span>
     }
 }
 
-/// The turns from the one that is given, or from the boot, until another.
+/// The turns from `at`, or from the boot, until `until`.
 fn span_until(at: Option<&str>, until: &str) -> Option<Span>
     ensures exact { result ≡ spanned (option_map (λ t. t.now) at.entry) (Some until.now) }
     ensures last { IfSome result (λ span. span.until ≤ 10000000) }
@@ -82,7 +83,7 @@ fn span_until(at: Option<&str>, until: &str) -> Option<Span>
     between(from, until)
 }
 
-/// The one turn that is given.
+/// The single turn `at`.
 fn span_at(at: Option<&str>) -> Option<Span>
     ensures exact { result ≡ spanned (option_map (λ t. t.now) at.entry) None }
     ensures last { IfSome result (λ span. span.until ≤ 10000000) }
@@ -102,14 +103,33 @@ fn spanned(at: Option<&str>, until: Option<&str>) -> Option<Span>
     }
 }
 
-/// The one turn that is given for flows, where no others are.
+/// The turns from one on, until 1,000,000, or that one alone where it is later.
+fn flowed_on(flow: &str) -> Option<Span>
+    ensures exact { result ≡ flowed_on flow.now }
+    ensures last { IfSome result (λ span. span.until ≤ 10000000) }
+{
+    let turn = read_turn(flow)?;
+    between(turn, turn.max(1_000_000))
+}
+
+fn flowed_until(until: Option<&str>, flow: &str) -> Option<Span>
+    ensures exact { result ≡ flowed None (option_map (λ t. t.now) until.entry) flow.now }
+    ensures last { IfSome result (λ span. span.until ≤ 10000000) }
+{
+    match until {
+        Some(until) => span_until(Some(flow), until),
+        None => flowed_on(flow),
+    }
+}
+
+/// The turns that are given for flows, where none is given otherwise.
 fn flowed(at: Option<&str>, until: Option<&str>, flow: &str) -> Option<Span>
     ensures exact { result ≡ flowed (option_map (λ t. t.now) at.entry) (option_map (λ t. t.now) until.entry) flow.now }
     ensures last { IfSome result (λ span. span.until ≤ 10000000) }
 {
-    match (at, until) {
-        (None, None) => span_at(Some(flow)),
-        (Some(_), _) | (None, Some(_)) => None,
+    match at {
+        Some(_) => None,
+        None => flowed_until(until, flow),
     }
 }
 
@@ -124,7 +144,7 @@ fn span_of(at: Option<&str>, until: Option<&str>, flow: Option<&str>) -> Option<
     }
 }
 
-/// Whether there is a text.
+/// Whether `text` is given.
 fn is_given(text: Option<&str>) -> bool
     ensures { result ≡ is_some (option_map (λ t. t.now) text.entry) }
 {
@@ -141,7 +161,7 @@ fn name_if_any(alloc: Global, text: Option<&str>) -> Result<Option<Name>, AllocE
     }
 }
 
-/// The request for a scenario and some turns.
+/// The request for `scenario` and some turns.
 fn request_for(
     alloc: Global,
     matches: &ArgMatches,
@@ -186,12 +206,12 @@ fn request_of(alloc: Global, matches: &ArgMatches) -> Result<Request, CommandFau
     Ok(request_for(alloc, matches, scenario, span)?)
 }
 
-/// Reads the words after the program's own name: `SCENARIO [--order ORDER] [--at TURN] [--until TURN] [--policy POLICY] [--flow TURN]`, the options anywhere
-/// among them.
+/// Reads `words`, those after the program's own name: `SCENARIO [--order ORDER] [--at TURN] [--until TURN] [--policy POLICY] [--flow TURN]`, the
+/// options anywhere among them.
 ///
 /// TURN is decimal digits, or `0x` and hexadecimal digits, of a number from 0 to 10,000,000. Without `--until` the one turn is that of `--at`, or
-/// 1,000,000; with it the first turn is that of `--at`, or 0, and not after the last. `--flow` stands in place of `--at`, and with neither of the two. `Usage`
-/// comes exactly where the words are no request, and asking for help or for the version is none. `Memory` says nothing of the words.
+/// 1,000,000; with it the first turn is that of `--at`, or 0, and not after the last. `--flow` stands in place of `--at`, and without `--until` the last
+/// turn is 1,000,000, or the first, where that is later. `Usage` comes exactly where the words are no request, and asking for help or for the version is none. `Memory` says nothing of the words.
 #[tactic(auto, unfolding(crate::specs::Words::asked))]
 pub fn read_request(alloc: Global, words: &[String]) -> Result<Request, CommandFault>
     ensures exact { Answers (asked (map string_bytes words.now)) result }

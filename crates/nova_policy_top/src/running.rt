@@ -13,7 +13,7 @@ use nova_run::{Finished, round_robin, run_order};
 use nova_scenario::Scenario;
 use std::alloc::{AllocError, Global};
 
-/// Adds the turns of a block to an order, as far as that may have at most so many.
+/// Adds the turns of `block` to `first`, as far as that may have at most `most`.
 fn add_within(first: &mut Order, block: Block, most: u64) -> Result<(), AllocError>
     requires few { total first.old.blocks ≤ most }
     ensures turns { OnOk result (turns first.new.blocks ≡ turns first.old.blocks ++ replicate (min block.count (most - total first.old.blocks)) block.cpu) }
@@ -26,7 +26,7 @@ fn add_within(first: &mut Order, block: Block, most: u64) -> Result<(), AllocErr
     Ok(())
 }
 
-/// The first turns of an order, at most so many.
+/// The first turns of `order`, at most `most`.
 fn first_turns(alloc: Global, order: &Order, most: u64) -> Result<Order, AllocError>
     ensures turns { IfOk result (λ first. turns first.blocks ≡ take most (turns order.now.blocks)) }
     ensures few { IfOk result (λ first. total first.blocks ≤ most) }
@@ -38,7 +38,7 @@ fn first_turns(alloc: Global, order: &Order, most: u64) -> Result<Order, AllocEr
     Ok(first)
 }
 
-/// Boots a scenario, and runs it by round robin for at most `at` turns.
+/// Boots `scenario`, and runs it by round robin for at most `at` turns.
 fn run_rounds(alloc: Global, scenario: &Scenario, at: u32) -> Result<Finished, Exit>
     requires sound { IsSound scenario.now }
     requires last { at ≤ 10000000 }
@@ -51,7 +51,7 @@ fn run_rounds(alloc: Global, scenario: &Scenario, at: u32) -> Result<Finished, E
     Ok(round_robin(alloc, kernel, most)?)
 }
 
-/// Boots a scenario, and runs it over an order of at most `at` turns.
+/// Boots `scenario`, and runs it over an order of at most `at` turns.
 fn run_first(alloc: Global, scenario: &Scenario, first: &Order, at: u32) -> Result<Finished, Exit>
     requires sound { IsSound scenario.now }
     requires last { at ≤ 10000000 }
@@ -67,7 +67,12 @@ fn run_first(alloc: Global, scenario: &Scenario, first: &Order, at: u32) -> Resu
 }
 
 /// Boots a scenario, and runs it over the first turns of an order, at most `at`.
-fn run_along(alloc: Global, scenario: &Scenario, order: &Order, at: u32) -> Result<Finished, Exit>
+pub fn run_along(
+    alloc: Global,
+    scenario: &Scenario,
+    order: &Order,
+    at: u32,
+) -> Result<Finished, Exit>
     requires sound { IsSound scenario.now }
     requires last { at ≤ 10000000 }
     requires within { IsTrue (is_within scenario.now.cpus 10000000 order.now.blocks) }
@@ -81,7 +86,7 @@ fn run_along(alloc: Global, scenario: &Scenario, order: &Order, at: u32) -> Resu
     run_first(alloc, scenario, &first, at)
 }
 
-/// Boots a scenario, and runs it to a turn: by round robin, or along an order.
+/// Boots `scenario`, and runs it to the turn `at`, by round robin or along `order`.
 pub fn run_to(
     alloc: Global,
     scenario: &Scenario,

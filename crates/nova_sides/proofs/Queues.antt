@@ -1,4 +1,4 @@
--- Where nobody waits at a semaphore, no execution context is blocked there.
+-- Where none waits at a semaphore, no execution context is blocked there.
 use Rattle.std.proofs.Common.{◌≡◌, ℕ, List, [], ◌∷◌, ◌++◌, flat_map, length, refl, ap, ◌∙◌}
 use Rattle.std.specs.Prelude.{◌+◌, if◌then◌else◌, Bool, true, false, option_map, option_to_list, Option, Some, None}
 use Rattle.std.specs.List.{enumerate_from}

@@ -22,7 +22,7 @@ use Rattle.nova_ties.specs.Ties.{AreRespected, Respects, is_broken, is_respected
 use Rattle.nova_ties.proofs.Settling.{respected_from, respects_from}
 use Rattle.nova_ties.specs.declared.tie.Tie.{Tie}
 use Rattle.law_sides.specs.Resting.{IsAtRest, Sided, is_astray, is_astray_at, is_leading, is_leading_by, is_resting, is_sided, is_stirring, is_stirring_at}
-use Rattle.law_sides.specs.Tied.{lead_of, ties}
+use Rattle.law_sides.specs.Tied.{flows_by, lead_of, ties}
 use Rattle.nova_sides.specs.Verdicts.{IsBreach, IsRestless}
 use Rattle.nova_sides.specs.declared.judging.Restless.{Restless}
 use Rattle.nova_sides.specs.declared.judging.Restless.TheVariants.{Astray, Leads, Stirs}
@@ -38,15 +38,15 @@ use Rattle.law_sides.proofs.Words.{donor_ec}
 broken_there : (label : ℕ → ℕ) (list : List Tie) (t : Tie) → find (is_broken label) list ≡ Some t → IsIn list t × (is_broken label t ≡ true)
 broken_there label list t is = found_in (is_broken label) list t is
 
-pub breach_found : (k : KernelState) (label : ℕ → ℕ) (t : Tie) → find (is_broken label) (ties k) ≡ Some t → IsBreach k label t
-breach_found k label t is =
-    let found = broken_there label (ties k) t is in
+pub breach_found : (shared : ℕ → Bool) (flows : ℕ → ℕ → Bool) (k : KernelState) (label : ℕ → ℕ) (t : Tie) → find (is_broken label) (ties shared (flows_by flows label) k) ≡ Some t → IsBreach shared flows k label t
+breach_found shared flows k label t is =
+    let found = broken_there label (ties shared (flows_by flows label) k) t is in
     let off : Respects label t → ⊥ = λ r. not_both (is_respected label t) (respected_from label t r) found.1 in
     record {
       first = is;
-      there = contains_from_in (ties k) t found.0;
+      there = contains_from_in (ties shared (flows_by flows label) k) t found.0;
       broken = off;
-      none = λ isolated. off (all_at (Respects label) (ties k) t (isolated_respects k label isolated) found.0);
+      none = λ isolated. off (all_at (Respects label) (ties shared (flows_by flows label) k) t (isolated_respects k label isolated) found.0);
     }
   where
     not_both : (b : Bool) → b ≡ true → not b ≡ true → ⊥
@@ -57,9 +57,9 @@ respects_all : (label : ℕ → ℕ) (list : List Tie) → AllByRecursion (λ (t
 respects_all label [] all = tt
 respects_all label (t ∷ list) all = (respects_from label t (not-false (is_respected label t) all.0), respects_all label list all.1)
 
-pub isolation_found : (k : KernelState) (label : ℕ → ℕ) → HasTables k → find (is_broken label) (ties k) ≡ None → AreIsolated k label
-isolation_found k label tables none =
-    respected_isolated k label tables (respects_all label (ties k) (none_found (is_broken label) (ties k) (ap (λ (o : Option Tie). is_some o) none)))
+pub isolation_found : (shared : ℕ → Bool) (flows : ℕ → ℕ → Bool) (k : KernelState) (label : ℕ → ℕ) → HasTables k → find (is_broken label) (ties shared (flows_by flows label) k) ≡ None → AreIsolated shared flows k label
+isolation_found shared flows k label tables none =
+    respected_isolated k label tables (respects_all label (ties shared (flows_by flows label) k) (none_found (is_broken label) (ties shared (flows_by flows label) k) (ap (λ (o : Option Tie). is_some o) none)))
 
 -- REST
 

@@ -2,6 +2,7 @@ ghost use Rattle.std.specs.Prelude.{◌≡◌, ◌++◌, ◌<◌, not, option_to
 ghost use Rattle.nova_model.specs.Delegations.{is_memory};
 ghost use Rattle.nova_model.specs.State.{pd_of};
 ghost use Rattle.law_sides.specs.Tied.{is_blocked_at, strict, weak};
+ghost use Rattle.nova_sides.specs.Among.{is_among};
 
 use nova_kernel::{EcState, Kernel, Kind, Object, State};
 use nova_ties::{Cause, Tie};
@@ -46,6 +47,13 @@ pub(crate) fn domain_of(kernel: &Kernel, ec: u32) -> u32
         Some(Object::Ec { pd, .. }) => *pd,
         _ => u32::MAX,
     }
+}
+
+/// Whether a number is among some.
+pub(crate) fn is_among(list: &[u32], n: u32) -> bool
+    ensures { result ≡ is_among list.now n }
+{
+    list.iter().any(|&other| other == n)
 }
 
 pub(crate) fn is_object(kind: Kind) -> bool

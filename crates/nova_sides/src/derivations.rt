@@ -3,7 +3,7 @@ ghost use Rattle.std.specs.Prelude.{◌≡◌, IfOk};
 use nova_kernel::{Derivation, Kernel};
 use std::alloc::{AllocError, Global};
 
-/// The derivations of a kernel, by rising id.
+/// The derivations of `kernel`, by rising id.
 pub fn derivations_of(alloc: Global, kernel: &Kernel) -> Result<Vec<Derivation>, AllocError>
     ensures { IfOk result (λ list. list.items ≡ kernel.now.state.delegations.list) }
 {

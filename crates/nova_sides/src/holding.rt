@@ -1,14 +1,17 @@
-ghost use Rattle.std.specs.Prelude.{◌≡◌, ◌++◌, ◌+◌, ◌<◌, ◌^◌, ◌||◌, flat_map, length, nat_lt, option_to_list, slice_get, OnOk, Some, ℕ};
+ghost use Rattle.std.specs.Prelude.{◌≡◌, ◌++◌, ◌||◌, [], flat_map, if◌then◌else◌, length, option_to_list, slice_get, OnOk, Some, ℕ};
 ghost use Rattle.std.specs.List.{enumerate_from};
-ghost use Rattle.nova_range.specs.Rights.{allows, write_right};
+ghost use Rattle.nova_range.specs.Rights.{allows};
 ghost use Rattle.nova_model.specs.Capabilities.{bind_portal_right, bind_scheduling_right, control_right};
+ghost use Rattle.nova_model.specs.Delegations.{is_child_of};
 ghost use Rattle.nova_model.specs.Semaphores.{semaphore};
 ghost use Rattle.nova_model.specs.State.{context_at};
 ghost use Rattle.law_turns.specs.Waiting.{AreBlocked};
 ghost use Rattle.law_sides.specs.Isolated.{commands};
-ghost use Rattle.law_sides.specs.Tied.{is_blocked_at, lead_of, leads, leads_to, meets, overlaps, overlaps_all, shares, shares_all, strict, ties_by, waits_at, waits_in, weak};
+ghost use Rattle.law_sides.specs.Tied.{is_blocked_at, lead_of, leads, shares, shares_all, shares_at, strict, ties_by, waits_all, waits_at, waits_in, weak};
+ghost use Rattle.nova_sides.specs.Among.{flows_in, is_among};
 
-use crate::common::{domain_of, is_blocked_at, is_object, push, weak};
+use crate::common::{domain_of, is_among, is_blocked_at, is_object, push, strict, weak};
+use crate::memory::push_overlaps;
 use bitflags::Flags;
 use nova_kernel::{Derivation, Kernel, Kind, Object, Rights};
 use nova_ties::{Cause, Tie};
@@ -75,15 +78,38 @@ pub(crate) fn lead_of(kernel: &Kernel, d: Derivation) -> Option<Tie>
     }
 }
 
+/// Whether a capability was derived from one of an id.
+fn is_child_of(id: u32, d: Derivation) -> bool
+    ensures { result ≡ is_child_of id d }
+{
+    match d.parent {
+        Some(parent) => parent == id,
+        None => false,
+    }
+}
+
+/// Another capability to a semaphore, which is shared or not.
+fn shares_at(common: bool, d: Derivation, e: Derivation) -> Option<Tie>
+    ensures { result ≡ shares_at common d e }
+{
+    if !common {
+        Some(weak(d.pd, e.pd, Cause::Shared(d.id, e.id)))
+    } else if is_child_of(d.id, e) {
+        Some(strict(d.pd, e.pd, Cause::Shared(d.id, e.id)))
+    } else {
+        None
+    }
+}
+
 /// Another capability to the same semaphore.
-fn shares(d: Derivation, e: Derivation) -> Option<Tie>
-    ensures { result ≡ shares d e }
+fn shares(shared: &[u32], d: Derivation, e: Derivation) -> Option<Tie>
+    ensures { result ≡ shares (is_among shared.now) d e }
 {
     match e.kind {
         Kind::Mem => None,
         Kind::Obj => {
             if e.target == d.target {
-                Some(weak(d.pd, e.pd, Cause::Shared(d.id, e.id)))
+                shares_at(is_among(shared, d.target), d, e)
             } else {
                 None
             }
@@ -91,11 +117,16 @@ fn shares(d: Derivation, e: Derivation) -> Option<Tie>
     }
 }
 
-fn push_shared(out: &mut Vec<Tie>, d: Derivation, list: &[Derivation]) -> Result<(), AllocError>
-    ensures { OnOk result (out.new.items ≡ out.old.items ++ flat_map (λ e. option_to_list (shares d e)) list.now) }
+fn push_shared(
+    out: &mut Vec<Tie>,
+    shared: &[u32],
+    d: Derivation,
+    list: &[Derivation],
+) -> Result<(), AllocError>
+    ensures { OnOk result (out.new.items ≡ out.old.items ++ flat_map (λ e. option_to_list (shares (is_among shared.now) d e)) list.now) }
 {
     for e in list {
-        push(out, shares(d, *e))?;
+        push(out, shares(shared, d, *e))?;
     }
     Ok(())
 }
@@ -104,13 +135,14 @@ fn push_shared(out: &mut Vec<Tie>, d: Derivation, list: &[Derivation]) -> Result
 fn push_shares(
     out: &mut Vec<Tie>,
     kernel: &Kernel,
+    shared: &[u32],
     d: Derivation,
     list: &[Derivation],
 ) -> Result<(), AllocError>
-    ensures { OnOk result (out.new.items ≡ out.old.items ++ shares_all list.now d (slice_get kernel.now.state.objects d.target)) }
+    ensures { OnOk result (out.new.items ≡ out.old.items ++ shares_all (is_among shared.now) list.now d (slice_get kernel.now.state.objects d.target)) }
 {
     match kernel.object(d.target) {
-        Some(Object::Sm) => push_shared(out, d, list),
+        Some(Object::Sm) => push_shared(out, shared, d, list),
         _ => Ok(()),
     }
 }
@@ -165,103 +197,56 @@ fn push_waits(out: &mut Vec<Tie>, kernel: &Kernel, d: Derivation) -> Result<(), 
     push_waiting(out, kernel, d)
 }
 
-/// The first frame after a range of memory.
-fn end_of(target: u32, order: u8) -> u64
-    requires { order < 32 }
-    ensures { result ≡ target + 2 ^ order }
-{
-    u64::from(target) + (1 << order)
-}
-
-/// Whether a frame is below the first one after a range of memory.
-#[tactic(auto, using(crate::proofs::Ranges::far_end))]
-fn is_below(target: u32, order: u8, frame: u32) -> bool
-    ensures { result ≡ nat_lt frame (target + 2 ^ order) }
-{
-    order >= 32 || u64::from(frame) < end_of(target, order)
-}
-
-/// Whether a range of memory has a frame.
-fn leads_to(d: Derivation, frame: u32) -> bool
-    ensures { result ≡ leads_to d frame }
-{
-    d.target <= frame && is_below(d.target, d.order, frame)
-}
-
-/// Whether two ranges of memory have a frame in common.
-fn meets(d: Derivation, e: Derivation) -> bool
-    ensures { result ≡ meets d e }
-{
-    leads_to(d, e.target) || leads_to(e, d.target)
-}
-
-/// Other memory with a frame of some memory.
-fn overlaps(d: Derivation, e: Derivation) -> Option<Tie>
-    ensures { result ≡ overlaps d e }
-{
-    match e.kind {
-        Kind::Mem => {
-            if meets(d, e) {
-                Some(weak(d.pd, e.pd, Cause::Frames(d.id, e.id)))
-            } else {
-                None
-            }
-        }
-        Kind::Obj => None,
-    }
-}
-
-fn push_overlapping(
+/// The same, unless that is shared.
+fn push_unshared_waits(
     out: &mut Vec<Tie>,
+    kernel: &Kernel,
+    shared: &[u32],
     d: Derivation,
-    list: &[Derivation],
 ) -> Result<(), AllocError>
-    ensures { OnOk result (out.new.items ≡ out.old.items ++ flat_map (λ e. option_to_list (overlaps d e)) list.now) }
+    requires blocked { AreBlocked kernel.now.state.contexts kernel.now.state.semaphores }
+    ensures { OnOk result (out.new.items ≡ out.old.items ++ waits_all (is_among shared.now) kernel.now.state d) }
 {
-    for e in list {
-        push(out, overlaps(d, *e))?;
-    }
-    Ok(())
-}
-
-/// All memory with a frame of some memory, if that may be written.
-fn push_overlaps(out: &mut Vec<Tie>, d: Derivation, list: &[Derivation]) -> Result<(), AllocError>
-    ensures { OnOk result (out.new.items ≡ out.old.items ++ overlaps_all list.now d (allows d.rights write_right)) }
-{
-    if d.rights.contains(Rights::WRITE) {
-        push_overlapping(out, d, list)
-    } else {
+    if is_among(shared, d.target) {
         Ok(())
+    } else {
+        push_waits(out, kernel, d)
     }
 }
 
 fn push_by(
     out: &mut Vec<Tie>,
     kernel: &Kernel,
+    labels: &[u32],
+    shared: &[u32],
+    flows: &[(u32, u32)],
     d: Derivation,
     list: &[Derivation],
 ) -> Result<(), AllocError>
     requires blocked { AreBlocked kernel.now.state.contexts kernel.now.state.semaphores }
-    ensures { OnOk result (out.new.items ≡ out.old.items ++ ties_by kernel.now.state list.now d) }
+    ensures { OnOk result (out.new.items ≡ out.old.items ++ ties_by (is_among shared.now) (flows_in flows.now labels.now) kernel.now.state list.now d) }
 {
     if !is_object(d.kind) {
-        return push_overlaps(out, d, list);
+        return push_overlaps(out, false, labels, flows, d, list);
     }
     push(out, lead_of(kernel, d))?;
-    push_shares(out, kernel, d, list)?;
-    push_waits(out, kernel, d)
+    push_shares(out, kernel, shared, d, list)?;
+    push_unshared_waits(out, kernel, shared, d)
 }
 
 pub(crate) fn push_all_by(
     out: &mut Vec<Tie>,
     kernel: &Kernel,
+    labels: &[u32],
+    shared: &[u32],
+    flows: &[(u32, u32)],
     list: &[Derivation],
 ) -> Result<(), AllocError>
     requires blocked { AreBlocked kernel.now.state.contexts kernel.now.state.semaphores }
-    ensures { OnOk result (out.new.items ≡ out.old.items ++ flat_map (ties_by kernel.now.state list.now) list.now) }
+    ensures { OnOk result (out.new.items ≡ out.old.items ++ flat_map (ties_by (is_among shared.now) (flows_in flows.now labels.now) kernel.now.state list.now) list.now) }
 {
     for d in list {
-        push_by(out, kernel, *d, list)?;
+        push_by(out, kernel, labels, shared, flows, *d, list)?;
     }
     Ok(())
 }

@@ -2,6 +2,7 @@ ghost use Rattle.std.specs.Prelude.{◌≡◌, ◌<◌, ◌^◌, length, IfOk, I
 ghost use Rattle.law_turns.specs.Tables.{HasTables};
 ghost use Rattle.nova_ties.specs.Ties.{label_in};
 ghost use Rattle.law_sides.specs.Resting.{IsAtRest};
+ghost use Rattle.nova_sides.specs.Among.{is_among, is_flow};
 ghost use Rattle.nova_sides.specs.Verdicts.{IsJudged, IsRestless};
 
 use crate::derivations::derivations_of;
@@ -25,7 +26,7 @@ pub enum Restless {
 /// What sides are in a state.
 #[derive(Clone, Copy)]
 pub enum Verdict {
-    /// The sides are isolated, and all that is trusted is at rest: they are apart for good.
+    /// The sides are isolated, but for what they share and what flows between them on purpose, and all that is trusted is at rest: they are apart for good.
     Apart,
     /// The sides are isolated, and this is why not all that is trusted is at rest: they are apart for as long as what is trusted is careful.
     Served(Restless),
@@ -53,14 +54,21 @@ fn first_restless(kernel: &Kernel, labels: &[u32], list: &[Derivation]) -> Optio
     }
 }
 
-/// What the sides of `labels` are in the present state of `kernel`: isolated or not, exactly, with the first tie that they don't respect; and beside
-/// what is at rest or not, exactly.
-pub fn judge(alloc: Global, kernel: &Kernel, labels: &[u32]) -> Result<Verdict, AllocError>
+/// What the sides of `labels` are in the present state of `kernel`, where they share the semaphores of the numbers `shared` on purpose, and memory flows
+/// by `flows`, from the first to the second label of each pair: isolated but for these or not, exactly, with the first tie that they don't respect;
+/// and beside what is at rest or not, exactly.
+pub fn judge(
+    alloc: Global,
+    kernel: &Kernel,
+    labels: &[u32],
+    shared: &[u32],
+    flows: &[(u32, u32)],
+) -> Result<Verdict, AllocError>
     requires few { length labels.now < 2 ^ 32 }
-    ensures judged { IfOk result (λ v. IsJudged kernel.now.state (label_in labels.now) v) }
+    ensures judged { IfOk result (λ v. IsJudged (is_among shared.now) (is_flow flows.now) kernel.now.state (label_in labels.now) v) }
 {
     kernel.actor(0);
-    let tied = ties(alloc, kernel)?;
+    let tied = ties(alloc, kernel, labels, shared, flows)?;
     match first_broken(labels, &tied) {
         Some(tie) => Ok(Verdict::Breach(tie)),
         None => {

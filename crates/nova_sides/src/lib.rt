@@ -6,6 +6,7 @@ mod common;
 mod derivations;
 mod holding;
 mod judging;
+mod memory;
 mod resting;
 mod roles;
 mod tied;
@@ -13,5 +14,6 @@ mod waiting;
 
 pub use derivations::derivations_of;
 pub use judging::{Restless, Verdict, judge};
+pub use memory::flowing;
 pub use roles::{Role, role_of, what_is_not_at_work_is_harmless};
 pub use tied::ties;

@@ -12,14 +12,14 @@ use bitflags::Flags;
 use nova_kernel::{Derivation, EcState, Kernel, Object, Rights, State};
 use nova_ties::{Tie, label_of};
 
-/// Whether a capability may raise a semaphore.
+/// Whether the capability `d` may raise the semaphore `sm`.
 fn raises(sm: u32, d: Derivation) -> bool
     ensures { result ≡ raises sm d }
 {
     is_object(d.kind) && d.target == sm && d.rights.contains(Rights::UP)
 }
 
-/// Whether no side may raise a semaphore.
+/// Whether no side may raise the semaphore `sm`.
 fn is_unraised_by_sides(labels: &[u32], list: &[Derivation], sm: u32) -> bool
     ensures { result ≡ is_unraised (is_sided (label_in labels.now)) list.now sm }
 {
@@ -27,28 +27,28 @@ fn is_unraised_by_sides(labels: &[u32], list: &[Derivation], sm: u32) -> bool
         .all(|&d| !(raises(sm, d) && label_of(labels, d.pd) != 0))
 }
 
-/// Whether no domain but one may raise a semaphore.
+/// Whether no domain but `n` may raise the semaphore `sm`.
 fn is_unraised_by_others(n: u32, list: &[Derivation], sm: u32) -> bool
     ensures { result ≡ is_unraised (is_other n) list.now sm }
 {
     list.iter().all(|&d| !(raises(sm, d) && d.pd != n))
 }
 
-/// Whether a semaphore is no alarm's.
+/// Whether the semaphore `sm` is no alarm's.
 fn is_unrung(kernel: &Kernel, sm: u32) -> bool
     ensures { result ≡ is_unrung kernel.now.state.times sm }
 {
     kernel.sources().iter().all(|a| a.sm != sm)
 }
 
-/// Whether nothing is to come on a processor: no deadline and no alarm.
+/// Whether nothing is to come on the processor `cpu`: no deadline and no alarm.
 fn is_nothing(kernel: &Kernel, cpu: u32) -> bool
     ensures { result ≡ is_nothing (until_due kernel.now.state.times cpu) }
 {
     kernel.until_due(cpu).is_none()
 }
 
-/// Whether an execution context does nothing, and nothing but a call or an exit has it do something, where of all others sides alone act.
+/// Whether `context` does nothing, and nothing but a call or an exit has it do something, where of all others sides alone act.
 fn rests_beside_sides(
     kernel: &Kernel,
     labels: &[u32],
@@ -69,7 +69,7 @@ fn rests_beside_sides(
     }
 }
 
-/// The same, where all other domains may act than one.
+/// Whether `context` does nothing, and nothing but a call or an exit has it do something, where all domains but `n` may act.
 pub(crate) fn rests_beside_others(
     kernel: &Kernel,
     list: &[Derivation],
@@ -97,7 +97,7 @@ fn is_astray_at(label: u32, object: Option<&Object>) -> bool
     label != 0 && !matches!(object, Some(Object::Pd))
 }
 
-/// The first number in a table of labels that has a side and is of no domain.
+/// The first number in `labels` that has a side and is of no domain of `kernel`.
 pub fn first_astray(kernel: &Kernel, labels: &[u32]) -> Option<u32>
     requires { length labels.now < 2 ^ 32 }
     ensures { result ≡ option_map (λ e. e.0) (find (is_astray kernel.now.state) (enumerate_from 0 labels.now)) }
@@ -110,7 +110,7 @@ pub fn first_astray(kernel: &Kernel, labels: &[u32]) -> Option<u32>
     None
 }
 
-/// Whether a tie leads from a side to what is trusted.
+/// Whether `tie` leads from a side to what is trusted.
 fn is_leading_by(labels: &[u32], tie: Option<Tie>) -> bool
     ensures { result ≡ is_leading_by (label_in labels.now) tie }
 {
@@ -120,7 +120,7 @@ fn is_leading_by(labels: &[u32], tie: Option<Tie>) -> bool
     }
 }
 
-/// Whether a capability of a side leads to a domain, an execution context or a portal of what is trusted.
+/// Whether `d`, a capability of a side, leads to a domain, an execution context or a portal of what is trusted.
 fn is_leading(kernel: &Kernel, labels: &[u32], d: Derivation) -> bool
     ensures { result ≡ is_leading kernel.now.state (label_in labels.now) d }
 {
@@ -133,7 +133,7 @@ fn leading_in<'a>(kernel: &Kernel, labels: &[u32], list: &'a [Derivation]) -> Op
     list.iter().find(|d| is_leading(kernel, labels, **d))
 }
 
-/// The first capability of a side that leads to what is trusted.
+/// The first capability in `list` of a side that leads to what is trusted.
 pub fn first_leading(kernel: &Kernel, labels: &[u32], list: &[Derivation]) -> Option<Derivation>
     ensures { result ≡ find (is_leading kernel.now.state (label_in labels.now)) list.now }
 {
@@ -152,7 +152,7 @@ fn is_stirring_at(kernel: &Kernel, labels: &[u32], list: &[Derivation], n: u32, 
     }
 }
 
-/// Whether an execution context of what is trusted isn't at rest.
+/// Whether the execution context `n` of what is trusted isn't at rest.
 fn is_stirring(kernel: &Kernel, labels: &[u32], list: &[Derivation], n: u32, object: Object) -> bool
     requires list { list.now ≡ kernel.now.state.delegations.list }
     ensures { result ≡ is_stirring kernel.now.state (label_in labels.now) (n, object) }
@@ -163,7 +163,7 @@ fn is_stirring(kernel: &Kernel, labels: &[u32], list: &[Derivation], n: u32, obj
     }
 }
 
-/// The first execution context of what is trusted that isn't at rest.
+/// The first execution context of what is trusted by `labels` that isn't at rest.
 pub fn first_stirring(kernel: &Kernel, labels: &[u32], list: &[Derivation]) -> Option<u32>
     requires list { list.now ≡ kernel.now.state.delegations.list }
     ensures { result ≡ option_map (λ e. e.0) (find (is_stirring kernel.now.state (label_in labels.now)) (enumerate_from 0 kernel.now.state.objects)) }

@@ -33,7 +33,7 @@ pub enum Role {
     Works,
 }
 
-/// The domain whose the object is to which a capability leads.
+/// The domain whose the object is to which the capability `d` leads.
 fn target_domain(kernel: &Kernel, d: Derivation) -> Option<u32>
     ensures { result ≡ target_domain kernel.now.state d }
 {
@@ -63,21 +63,21 @@ fn is_none_or(n: u32, domain: Option<u32>) -> bool
     }
 }
 
-/// Whether a capability is a domain's, to an object.
+/// Whether `d` is a capability of the domain `n`, to an object.
 fn is_held(n: u32, d: Derivation) -> bool
     ensures { result ≡ is_held n d }
 {
     is_object(d.kind) && d.pd == n
 }
 
-/// Whether a capability is a side's, to what is a domain's.
+/// Whether `d` is a capability of a side, to what is of the domain `n`.
 fn is_reached_by(kernel: &Kernel, labels: &[u32], n: u32, d: Derivation) -> bool
     ensures { result ≡ is_reached_by kernel.now.state (label_in labels.now) n d }
 {
     is_object(d.kind) && label_of(labels, d.pd) != 0 && is_domain(n, target_domain(kernel, d))
 }
 
-/// Whether a capability neither makes anything, nor sends items.
+/// Whether the capability `d` neither makes anything, nor sends items.
 fn is_powerless(kernel: &Kernel, d: Derivation) -> bool
     ensures { result ≡ is_powerless d.rights (slice_get kernel.now.state.objects d.target) }
 {
@@ -101,7 +101,7 @@ fn is_bare_by(kernel: &Kernel, labels: &[u32], n: u32, d: Derivation) -> bool
     !is_held(n, d) && (!is_reached_by(kernel, labels, n, d) || is_powerless(kernel, d))
 }
 
-/// Whether a capability allows to control its object, and no more.
+/// Whether the capability `d` allows to control its object, and no more.
 fn controls_alone(kernel: &Kernel, d: Derivation) -> bool
     ensures { result ≡ controls_alone d.rights (slice_get kernel.now.state.objects d.target) }
 {
@@ -126,7 +126,7 @@ fn is_side(labels: &[u32], domain: Option<u32>) -> bool
     }
 }
 
-/// Whether a capability leads to a side's object, and allows to control it at most.
+/// Whether the capability `d` leads to a side's object, and allows to control it at most.
 fn is_controlled(kernel: &Kernel, labels: &[u32], d: Derivation) -> bool
     ensures { result ≡ is_controlled kernel.now.state (label_in labels.now) d }
 {
@@ -343,8 +343,8 @@ fn is_mute(kernel: &Kernel, labels: &[u32], list: &[Derivation], n: u32) -> bool
     is_mute_by_all(kernel, labels, list, n) && is_mute_in_all(kernel, labels, n)
 }
 
-/// What the trusted domain `n` is in the present state of `kernel`, of which `list` has all derivations: at rest, bare or mute, by the sides of
-/// `labels`; or else at work.
+/// What the trusted domain `n` is in the present state of `kernel`, whose derivations are `list`: at rest, bare or mute, by the sides of `labels`; or
+/// else at work.
 pub fn role_of(kernel: &Kernel, labels: &[u32], list: &[Derivation], n: u32) -> Role
     requires list { list.now ≡ kernel.now.state.delegations.list }
     ensures { result ≡ role_of kernel.now.state (label_in labels.now) n }

@@ -1,11 +1,12 @@
-ghost use Rattle.std.specs.Prelude.{◌≡◌, ◌++◌, ◌<◌, flat_map, option_to_list, OnOk, Some};
+ghost use Rattle.std.specs.Prelude.{◌≡◌, ◌++◌, ◌<◌, [], flat_map, if◌then◌else◌, option_to_list, OnOk, Some};
 ghost use Rattle.std.specs.List.{enumerate_from};
 ghost use Rattle.nova_model.specs.Edges.{edge_of};
 ghost use Rattle.nova_model.specs.State.{context, context_at, context_in, is_local_thread};
 ghost use Rattle.law_sides.specs.Isolated.{came_by_exit, is_exit_of, is_sending};
 ghost use Rattle.law_sides.specs.Tied.{beside_at, beside_in, gives_of, is_blocked_at, queue_of, served, serves_of, strict, takes_by, takes_of, ties_at, weak};
+ghost use Rattle.nova_sides.specs.Among.{is_among};
 
-use crate::common::{domain_of, is_blocked_at, push, strict, weak};
+use crate::common::{domain_of, is_among, is_blocked_at, push, strict, weak};
 use nova_kernel::{EcKind, Kernel, Mark, Object, State};
 use nova_ties::{Cause, Tie};
 use std::alloc::AllocError;
@@ -149,24 +150,49 @@ fn push_beside(
     Ok(())
 }
 
+/// All that wait at a semaphore, unless it is shared.
+fn push_unshared_queue(
+    out: &mut Vec<Tie>,
+    kernel: &Kernel,
+    shared: &[u32],
+    sm: u32,
+    n: u32,
+    pd: u32,
+) -> Result<(), AllocError>
+    ensures { OnOk result (out.new.items ≡ out.old.items ++ (if is_among shared.now sm then [] else flat_map (λ e. option_to_list (beside_in kernel.now.state sm n pd e)) (enumerate_from 0 kernel.now.state.objects))) }
+{
+    if is_among(shared, sm) {
+        Ok(())
+    } else {
+        push_beside(out, kernel, sm, n, pd)
+    }
+}
+
 /// All that wait where an execution context waits, if it waits at a semaphore.
 fn push_queue(
     out: &mut Vec<Tie>,
     kernel: &Kernel,
+    shared: &[u32],
     n: u32,
     pd: u32,
     state: State,
 ) -> Result<(), AllocError>
-    ensures { OnOk result (out.new.items ≡ out.old.items ++ queue_of kernel.now.state n pd state) }
+    ensures { OnOk result (out.new.items ≡ out.old.items ++ queue_of (is_among shared.now) kernel.now.state n pd state) }
 {
     match state {
-        State::Blocked(sm) => push_beside(out, kernel, sm, n, pd),
+        State::Blocked(sm) => push_unshared_queue(out, kernel, shared, sm, n, pd),
         _ => Ok(()),
     }
 }
 
-fn push_at(out: &mut Vec<Tie>, kernel: &Kernel, n: u32, object: Object) -> Result<(), AllocError>
-    ensures { OnOk result (out.new.items ≡ out.old.items ++ ties_at kernel.now.state (n, object)) }
+fn push_at(
+    out: &mut Vec<Tie>,
+    kernel: &Kernel,
+    shared: &[u32],
+    n: u32,
+    object: Object,
+) -> Result<(), AllocError>
+    ensures { OnOk result (out.new.items ≡ out.old.items ++ ties_at (is_among shared.now) kernel.now.state (n, object)) }
 {
     let Object::Ec { pd, .. } = object else {
         return Ok(());
@@ -177,14 +203,18 @@ fn push_at(out: &mut Vec<Tie>, kernel: &Kernel, n: u32, object: Object) -> Resul
     push(out, serves_of(kernel, n, pd, context.state))?;
     push(out, takes_of(kernel, n, pd, context.state, context.caller))?;
     push(out, gives_of(n, pd, context.state))?;
-    push_queue(out, kernel, n, pd, context.state)
+    push_queue(out, kernel, shared, n, pd, context.state)
 }
 
-pub(crate) fn push_all_at(out: &mut Vec<Tie>, kernel: &Kernel) -> Result<(), AllocError>
-    ensures { OnOk result (out.new.items ≡ out.old.items ++ flat_map (ties_at kernel.now.state) (enumerate_from 0 kernel.now.state.objects)) }
+pub(crate) fn push_all_at(
+    out: &mut Vec<Tie>,
+    kernel: &Kernel,
+    shared: &[u32],
+) -> Result<(), AllocError>
+    ensures { OnOk result (out.new.items ≡ out.old.items ++ flat_map (ties_at (is_among shared.now) kernel.now.state) (enumerate_from 0 kernel.now.state.objects)) }
 {
     for (i, object) in kernel.objects().iter().enumerate() {
-        push_at(out, kernel, i as u32, *object)?;
+        push_at(out, kernel, shared, i as u32, *object)?;
     }
     Ok(())
 }

@@ -105,7 +105,7 @@ met_respects old new t (Joins from to all) = λ some.
       | inr other ↦ renamed_other b a a other
     ]
 
--- a domain that had no label has none, and one that had one has one
+-- a domain that had no label has none, and a domain that had one has one
 met_none : (old new : List ℕ) (t : Tie) → IsMet old t new → (n : ℕ) → label_in old n ≡ 0 → label_in new n ≡ 0
 met_none old new t (Stays is same) n none = ap (λ (l : List ℕ). label_in l n) same ∙ none
 met_none old new t (Joins from to all) n none = all n ∙ ap (renamed (label_in old t.to) (label_in old t.from)) none ∙ renamed_none (label_in old t.to) (label_in old t.from) to
@@ -232,7 +232,7 @@ stops t ties old is =
     by_one label some (inl same) strict its = some (sym same ∙ its)
     by_one label some (inr weak) strict its = absurd (let true_is_false : true ≡ false = sym strict ∙ weak.0 in cc)
 
--- one that is stuck later is stuck
+-- a tie that is stuck later is stuck
 stuck_later : (t u : Tie) (ties : List Tie) (old : List ℕ) → is_met old t ≡ true → IsStuck ties (label_in (met old t)) u → IsStuck (t ∷ ties) (label_in old) u
 stuck_later t u ties old is s =
     let m = met_is old t is in

@@ -3,7 +3,7 @@ ghost use Rattle.nova_ties.specs.Ties.{is_broken, is_respected, label_in};
 
 use crate::tie::Tie;
 
-/// The label of a domain in a table: 0, as of one that is trusted, beyond it.
+/// The label of `domain` in `labels`: 0, as of a trusted domain, beyond the table.
 pub fn label_of(labels: &[u32], domain: u32) -> u32
     ensures { result ≡ label_in labels.now domain }
 {
@@ -13,8 +13,8 @@ pub fn label_of(labels: &[u32], domain: u32) -> u32
     }
 }
 
-/// Whether labels respect a tie: its first domain is trusted; or the second has the label of the first; or, where it isn't strict, the
-/// second is trusted.
+/// Whether `labels` respect `tie`: its first domain is trusted; or the second has the label of the first; or, where it isn't strict, the second is
+/// trusted.
 pub fn is_respected(labels: &[u32], tie: Tie) -> bool
     ensures { result ≡ is_respected (label_in labels.now) tie }
 {
@@ -23,14 +23,14 @@ pub fn is_respected(labels: &[u32], tie: Tie) -> bool
     from == 0 || to == from || (!tie.strict && to == 0)
 }
 
-/// The first tie that labels don't respect.
+/// The first of `ties` that `labels` don't respect.
 fn broken_in<'a>(labels: &[u32], ties: &'a [Tie]) -> Option<&'a Tie>
     ensures { option_map (λ t. t.now) result ≡ find (is_broken (label_in labels.now)) ties.now }
 {
     ties.iter().find(|tie| !is_respected(labels, **tie))
 }
 
-/// The first tie that labels don't respect.
+/// The first of `ties` that `labels` don't respect.
 pub fn first_broken(labels: &[u32], ties: &[Tie]) -> Option<Tie>
     ensures { result ≡ find (is_broken (label_in labels.now)) ties.now }
 {

@@ -10,7 +10,7 @@ fn renamed(label: u32, old: u32, new: u32) -> u32
     if label == old { new } else { label }
 }
 
-/// Gives all that have a label another one.
+/// Gives all domains of `labels` that have the label `old` the label `new`.
 fn rename(labels: &mut [u32], old: u32, new: u32)
     ensures { labels.new ≡ map (renamed old new) labels.old }
 {
@@ -19,7 +19,7 @@ fn rename(labels: &mut [u32], old: u32, new: u32)
     }
 }
 
-/// Has a tie respected, where it can be: the two sides become one.
+/// Has `tie` respected, where it can be: the two sides become one.
 fn meet(labels: &mut [u32], tie: Tie) -> bool
     ensures is { result ≡ is_met labels.old tie }
     ensures met { labels.new ≡ met labels.old tie }
@@ -35,7 +35,7 @@ fn meet(labels: &mut [u32], tie: Tie) -> bool
     true
 }
 
-/// Has ties respected one after another, until one can't be; and that one.
+/// Makes `labels` respect `ties` one after another, until one can't be respected, and returns that tie.
 fn settle_each(labels: &mut [u32], ties: &[Tie]) -> Option<Tie>
     ensures labels { labels.new ≡ (settled ties.now labels.old).0 }
     ensures stuck { result ≡ (settled ties.now labels.old).1 }
@@ -48,8 +48,8 @@ fn settle_each(labels: &mut [u32], ties: &[Tie]) -> Option<Tie>
     None
 }
 
-/// Joins sides until all ties are respected, where that can be. Trusted are those that were before. No others are joined than must be: whatever
-/// labels respect the ties, and trust no domain that isn't trusted here, have the same label where these have. Where it can't be, a tie is
+/// Joins sides in `labels` until all `ties` are respected, where that can be. Trusted are those that were before. No others are joined than must be:
+/// whatever labels respect the ties, and trust no domain that isn't trusted here, have the same label where these have. Where it can't be, a tie is
 /// answered that no such labels respect, if they trust its second domain, which is trusted here.
 pub fn settle(labels: &mut [u32], ties: &[Tie]) -> Option<Tie>
     ensures respected { IfNone result (AreRespected (label_in labels.new) ties.now) }

@@ -1,2 +1,5 @@
 pub mod Unbroken
+mod Unchanged
 pub mod Watching
+mod Working
+pub mod Lapsing

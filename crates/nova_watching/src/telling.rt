@@ -1,6 +1,6 @@
 ghost use Rattle.std.specs.Prelude.{◌≡◌, IfOk, string_bytes};
 ghost use Rattle.nova_judging.specs.Answers.{IsFinestAnswer};
-ghost use Rattle.nova_watching.specs.Watched.{IsTold, IsToldFrom, is_breaking, trusted_root};
+ghost use Rattle.nova_watching.specs.Watched.{IsKnown, IsTold, IsToldFrom, is_breaking, trusted_root};
 
 use nova_judging::{Answer, Told, answer_finest, answer_named};
 use nova_kernel::Kernel;
@@ -26,24 +26,30 @@ pub fn told_of(alloc: Global, policy: &Option<Policy>, kernel: &Kernel) -> Resul
     }
 }
 
-/// Whether an answer says that sides aren't isolated.
+/// Whether `answer` says that sides aren't isolated.
 fn is_breaking(answer: Answer) -> bool
     ensures { result ≡ is_breaking answer }
 {
     matches!(answer, Answer::Breach | Answer::Stuck)
 }
 
-/// What is told of a state after so many turns, if the sides aren't isolated in it, and it is one of those that are asked for.
+/// What is told of a state after so many turns, if the sides aren't isolated in it, and it is one of those that are asked for. Where it is known that they are, it
+/// isn't judged.
 pub(crate) fn told_from(
     alloc: Global,
     policy: &Option<Policy>,
     kernel: &Kernel,
     from: u64,
     done: u64,
+    known: bool,
 ) -> Result<Option<Told>, AllocError>
+    requires known { IsKnown known policy.now kernel.now.state }
     ensures { IfOk result (IsToldFrom policy.now from kernel.now.state done) }
 {
     if done < from {
+        return Ok(None);
+    }
+    if known {
         return Ok(None);
     }
     let told = told_of(alloc, policy, kernel)?;

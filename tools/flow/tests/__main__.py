@@ -33,8 +33,8 @@ def run(scenario: str, order: str) -> str:
         return subprocess.run([PROGRAM, "solo", *paths], capture_output=True, text=True, timeout=120).stdout
 
 
-def tells(*words: str) -> tuple[int, str]:
-    done = subprocess.run([sys.executable, TOOL, "--program", PROGRAM, *words], capture_output=True, text=True, timeout=300)
+def tells(*words: str, program: object = None) -> tuple[int, str]:
+    done = subprocess.run([sys.executable, TOOL, "--program", str(program or PROGRAM), *words], capture_output=True, text=True, timeout=300)
     return done.returncode, done.stdout + done.stderr
 
 
@@ -94,11 +94,12 @@ class Premises(unittest.TestCase):
         child = " ".join([*ours[:2], theirs[1], *ours[3:]])
         self.assertEqual(broken(report.replace(" ".join(ours), child)), {"IsGuarded.lines"})
 
-    def test_a_side_that_creates_gives_or_revokes_isnt_at_work(self) -> None:
+    def test_a_side_that_creates_or_revokes_isnt_at_work(self) -> None:
         works = [["1", "22", "answer", "12", "0"], ["1", "0", "irq", "1", "0"], ["1", "22", "begin", "0", "18"]]
         self.assertEqual(at_work(works), set())
         self.assertEqual(at_work([*works, ["1", "22", "answer", "6", "8"]]), {"IsAtWork.calls"})
-        self.assertEqual(at_work([*works, ["1", "18", "made", "52", "33"], ["1", "22", "gone", "52", "7"]]), {"IsAtWork.state"})
+        self.assertEqual(at_work([*works, ["1", "18", "made", "52", "33"], ["1", "18", "xlat", "0", "0"]]), set())
+        self.assertEqual(at_work([*works, ["1", "22", "gone", "52", "7"]]), {"IsAtWork.state"})
 
 
 class Runs(unittest.TestCase):
@@ -118,6 +119,10 @@ class Runs(unittest.TestCase):
                 status, said = tells("--leak", name, "--turns", "600")
                 self.assertEqual(status, 0, said)
                 self.assertIn(f"without {', '.join(sorted(LEAKS[name].breaks))}\n", said)
+
+    def test_a_program_that_is_none_is_refused_in_a_sentence(self) -> None:
+        self.assertEqual(tells("--count", "1", program="/nowhere/nova"), (2, "tools/flow: /nowhere/nova: No such file or directory\n"))
+        self.assertEqual(tells("--count", "1", program="/bin/true"), (2, "tools/flow: /bin/true: free.0.0: what it writes is no report\n"))
 
     def test_a_range_word(self) -> None:
         self.assertEqual(word("mem", 0x100, 4, 7), 0x10021D)

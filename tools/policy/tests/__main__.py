@@ -40,6 +40,18 @@ REFUSED = (
     ("".join(f"side s{n} {n}\n" for n in range(1001)), "line 1001: TooMany"),
     ("trusted 0\nside a 3\nside b 10 4 5\n", "line 3: NoDomain 4"),
     ("trusted 0 1000\nside a 4\n", "line 1: NoDomain 1000"),
+    ("shared\n", "line 1: Empty"),
+    ("shared six\n", "line 1: Number"),
+    ("shared 6\nshared 13 6\n", "line 2: SameSemaphore"),
+    ("trusted 0\nshared 6 3\nside a 4\n", "line 2: NoSemaphore 3"),
+    ("side a 3\nside b 10\nflow a\n", "line 3: Name"),
+    ("side a 3\nside b 10\nflow a b a\n", "line 3: Name"),
+    ("side a 3\nside b 10\nflow a trusted\n", "line 3: Name"),
+    ("side a 3\nside b 10\nflow a 10\n", "line 3: Name"),
+    ("side a 3\nflow a b\nside b 10\n", "line 2: NoSide"),
+    ("side a 3\nflow b a\n", "line 2: NoSide"),
+    ("side a 3\nflow a a\n", "line 2: SameSide"),
+    ("side a 3\nside b 10\nflow a b\nflow b a\nflow a b\n", "line 5: SameFlow"),
 )
 # Words that are no request, or name what isn't there, and the status.
 WRONG = (
@@ -51,7 +63,7 @@ WRONG = (
     (["examples/apart.nova", "--until", "10000001"], 2),
     (["examples/apart.nova", "--at", "9", "--until", "8"], 2),
     (["examples/apart.nova", "--at", "9", "--flow", "9"], 2),
-    (["examples/apart.nova", "--flow", "9", "--until", "9"], 2),
+    (["examples/apart.nova", "--flow", "9", "--until", "8"], 2),
     (["examples/apart.nova", "--flow", "10000001"], 2),
     (["examples/no_such.nova"], 3),
     (["examples/apart.nova", "--policy", "no_such.policy"], 3),
@@ -140,10 +152,10 @@ class Read(unittest.TestCase):
     """What is no answer isn't read."""
 
     def test_an_answer_is_read_with_its_ties_or_refused(self) -> None:
-        told = read_sides("turn 3\nbreach a:5 trusted:0 domain cap 9 strict\nfrom 9 - 0 obj 0 0 1 0\ntrusted: 0\nside a: 5\nprocessor 0: a 4\nprocessor 1:\ntie a:5 4:4 queue ec 1 ec 2\nflow a own 0 1\nflow 4 IsGuarded.memory cap 9 target 2\n")
+        told = read_sides("turn 3\nbreach a:5 trusted:0 domain cap 9 strict\nfrom 9 - 0 obj 0 0 1 0\ntrusted: 0\nside a: 5\nflows a:5 4:4 frames cap 9 cap 11\nprocessor 0: a 4\nprocessor 1:\ntie a:5 4:4 queue ec 1 ec 2\nflow a own 0 1 at work until turn 9: ec 2 gives\nflow 4 IsGuarded.memory cap 9 target 2\n")
         self.assertEqual((told.turn, told.breach.strict, told.links[0].parent, told.sides, told.ties[0].text), (3, True, None, {"a": (5,)}, "queue ec 1 ec 2"))
-        self.assertEqual(told.processors, [("a", "4"), ()])
-        for text in ("", "turn x\n", "turn 3\n", "turn 3\napart", "turn 3\napart\nhello\n", "turn 3\napart\nprocessor 1: a\n", "turn 3\nbreach a:5 b:6 portal ec 3\n", "turn 3\napart\ntie a:5 portal cap 3\n", "turn 3\napart\nflow a\n"):
+        self.assertEqual((told.processors, [tie.text for tie in told.flows]), ([("a", "4"), ()], ["frames cap 9 cap 11"]))
+        for text in ("", "turn x\n", "turn 3\n", "turn 3\napart", "turn 3\napart\nhello\n", "turn 3\napart\nprocessor 1: a\n", "turn 3\nbreach a:5 b:6 portal ec 3\n", "turn 3\napart\ntie a:5 portal cap 3\n", "turn 3\napart\nflows a:5 b:6 portal cap 3\n", "turn 3\napart\nflows a:5 trusted:0 frames cap 3 cap 4\n", "turn 3\napart\nflow a\n", "turn 3\napart\nflow a own 0\n"):
             with self.subTest(text), self.assertRaises(Fault):
                 read_sides(text)
 

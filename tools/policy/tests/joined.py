@@ -28,6 +28,13 @@ def named(told: Told, policy: Path | None) -> dict[int, str]:
     return found
 
 
+def flows_in(policy: Path | None) -> set[tuple[str, str]]:
+    """Which sides flow to which."""
+    lines = policy.read_text().splitlines() if policy else []
+    words = [line.partition("#")[0].split() for line in lines]
+    return {(line[1], line[2]) for line in words if line[:1] == ["flow"]}
+
+
 def joined(ties: list[Tie], side: dict[int, str]) -> tuple[dict[int, str], Tie | None]:
     """The finest sides that respect all ties, or the first tie that none respect."""
     side = dict(side)
@@ -55,9 +62,11 @@ def misnamed(place: Place, side: dict[int, str]) -> bool:
 def faults_of(told: Told, policy: Path | None) -> list[str]:
     """What is wrong with an answer by its own ties."""
     side = named(told, policy)
-    for place in (place for tie in told.ties for place in (tie.source, tie.target)):
+    for place in (place for tie in (*told.ties, *told.flows) for place in (tie.source, tie.target)):
         side.setdefault(place.domain, place.side)
-    faults = [f"{tie.text}: its sides are called otherwise" for tie in told.ties if misnamed(tie.source, side) or misnamed(tie.target, side)]
+    faults = [f"{tie.text}: its sides are called otherwise" for tie in (*told.ties, *told.flows) if misnamed(tie.source, side) or misnamed(tie.target, side)]
+    faults += [f"{tie.text} flows" for tie in told.flows if (tie.source.side, tie.target.side) not in flows_in(policy)]
+    faults += [f"{tie.text} is a tie" for tie in told.ties if tie.cause == "frames" and (tie.source.side, tie.target.side) in flows_in(policy)]
     finest, stuck = joined(told.ties, side)
     if stuck != told.stuck:
         faults.append(f"stuck at {told.stuck}, where the ties have {stuck}")

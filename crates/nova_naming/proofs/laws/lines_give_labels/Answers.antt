@@ -4,4 +4,4 @@ use Rattle.nova_naming.proofs.laws.lines_give_labels.Goals as goal
 
 pub returns : goal.returns
 unfolding label_of
-returns c = record { trusted = refl; side = refl; own = refl; called = refl }
+returns c = record { trusted = refl; side = refl; own = refl; called = refl; flows = refl }

@@ -7,4 +7,4 @@ use Rattle.nova_naming.proofs.laws.texts_are_no_policies.Goals as goal
 
 pub returns : goal.returns
 unfolding policy_of lines line_texts tokens number
-returns c = record { word = refl; name = refl; no_name = refl; number = refl; none = refl; same_name = refl; same_domain = refl; twice = refl }
+returns c = record { word = refl; name = refl; no_name = refl; number = refl; none = refl; same_name = refl; same_domain = refl; same_semaphore = refl; no_semaphore = refl; no_side = refl; no_other = refl; one_more = refl; itself = refl; same_flow = refl; twice = refl }

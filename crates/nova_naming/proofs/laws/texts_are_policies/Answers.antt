@@ -7,4 +7,4 @@ use Rattle.nova_naming.proofs.laws.texts_are_policies.Goals as goal
 
 pub returns : goal.returns
 unfolding policy_of lines line_texts tokens number
-returns c = record { sides = refl; empty = refl }
+returns c = record { sides = refl; shared = refl; flow = refl; empty = refl }

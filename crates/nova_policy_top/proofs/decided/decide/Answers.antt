@@ -1,4 +1,4 @@
-use Rattle.std.proofs.Common.{rules, ◌≡◌, Err}
+use Rattle.std.proofs.Common.{rules, ◌≡◌, Err, refl}
 use Rattle.nova_boot.specs.Boot.{scenario_of}
 use Rattle.nova_model.specs.Boot.{boot}
 use Rattle.nova_policy_top.proofs.Ran.{decided_by, stops_by, taken_by}
@@ -14,5 +14,4 @@ told_with-told-requires-clause-run c = taken_by (boot (scenario_of c.args.scenar
 
 pub returns : goal.returns
 returns c =
-    let same : c.from-from.result ≡ c.args.span.from = search rules in
-    decided_by (boot (scenario_of c.args.scenario.now)) c.args.order.now c.args.policy.now c.args.span c.args.flow c.in_ok-run.run' c.from-from.result _ c.in_ok-run.ensures.run same c.told_with-told.ensures
+    decided_by (boot (scenario_of c.args.scenario.now)) c.args.order.now c.args.policy.now c.args.span c.args.flow c.in_ok-run.run' c.args.span.from _ c.in_ok-run.ensures.run refl c.told_with-told.ensures

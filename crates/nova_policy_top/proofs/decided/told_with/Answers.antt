@@ -1,19 +1,15 @@
-use Rattle.std.proofs.Common.{◌≡◌, ℕ, List, Err, rules, string_bytes, subst}
+use Rattle.std.proofs.Common.{◌≡◌, ℕ, Bool, rules, sym, subst}
 use Rattle.nova_boot.specs.Boot.{scenario_of}
 use Rattle.nova_model.specs.Boot.{boot}
 use Rattle.nova_order.specs.Blocks.{turns}
-use Rattle.nova_policy_top.specs.Flows.{HasLines}
-use Rattle.nova_policy_top.proofs.Ran.{answered, unanswered}
+use Rattle.nova_policy_top.specs.Runs.{IsAnsweredOn, IsDecidedOn}
+use Rattle.nova_policy_top.proofs.Ran.{without_flows}
 use Rattle.nova_policy_top.proofs.decided.told_with.Goals as goal
 
-pub returns-in_err-told : goal.returns-in_err-told
-returns-in_err-told c =
-    let is : c.from_residual.result ≡ Err c.in_err-told.field-0.0 = search rules in
-    unanswered (boot (scenario_of c.args.scenario.now)) (turns c.args.run.now.order.blocks) c.args.policy.now c.args.from c.args.flow c.in_err-told.field-0.0 _ is c.in_err-told.ensures
-
-pub returns : goal.returns
-returns c =
-    let same : c.deref.result.now ≡ string_bytes c.in_ok-lines.lines = search rules in
-    answered (boot (scenario_of c.args.scenario.now)) c.args.run.now.kernel.state (turns c.args.run.now.order.blocks) c.args.policy.now c.args.from c.args.flow
-    c.in_ok-told.told c.in_ok-with_lines.field-0 _ c.requires.run.state c.in_ok-told.ensures c.in_ok-lines.ensures
-    (subst (λ (l : List ℕ). HasLines c.in_ok-told.told l c.in_ok-with_lines.field-0) same c.in_ok-with_lines.ensures)
+pub returns-else-flow : goal.returns-else-flow
+returns-else-flow c =
+    let k = boot (scenario_of c.args.scenario.now) in
+    let list = turns c.args.run.now.order.blocks in
+    let same : c.from.result ≡ c.args.from = search rules in
+    subst (λ (flow : Bool). IsAnsweredOn k list c.args.policy.now c.args.from flow c.told_on.result) (sym c.if-flow.false)
+    (without_flows k list c.args.policy.now c.args.from c.told_on.result (subst (λ (n : ℕ). IsDecidedOn k list c.args.policy.now n c.told_on.result) same c.told_on.ensures))

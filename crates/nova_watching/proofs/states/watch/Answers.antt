@@ -9,6 +9,7 @@ use Rattle.nova_watching.proofs.states.watch.Goals as goal
 pub loop-block-init : goal.loop-block-init
 loop-block-init c = record {
   watched = no_blocks c.args.policy.now c.args.from c.args.kernel.now.state;
+  known = tt;
   done = refl;
   room = omega arith;
   turns = omega arith;
@@ -52,6 +53,7 @@ loop-block-preserved c =
     record {
       watched = subst (λ (bs : List Block). IsWatched c.args.policy.now c.args.from c.args.kernel.now.state 0 (turns (take (i + 1) bs)) c.watch_block.new.kernel.state None) same
           (next_block c.args.policy.now c.args.from items i d less c.args.kernel.now.state c.loop-block.kernel.state c.watch_block.new.kernel.state c.loop-block.done done None first next);
+      known = c.in_ok-told.ensures.known;
       done = next_total c.args.policy.now c.args.from items i d less c.args.kernel.now.state c.loop-block.kernel.state c.watch_block.new.kernel.state c.loop-block.done done
           ∙ ap (λ (bs : List Block). total (take (i + 1) bs)) same;
       room = omega (arith, room, spent);

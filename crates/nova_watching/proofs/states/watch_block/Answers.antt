@@ -25,6 +25,7 @@ loop-turn-preserved c =
     let same = c.in_ok-told.ensures.cpus in
     record {
       watched = one_more c.args.policy.now c.args.from c.args.kernel.now.state c.loop-turn.kernel.state c.step.new.kernel.state c.args.done c.loop-turn.turn c.args.block.cpu None c.loop-turn.invariant.watched next;
+      known = c.in_ok-told.ensures.known;
       room = omega (arith, room, spent);
       turns = omega (arith, turns, taken);
       cpus = omega (arith, cpus, same);
