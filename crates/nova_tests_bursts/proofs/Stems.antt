@@ -1,4 +1,4 @@
--- A lease, and the states after the one from which it stems.
+-- A lease, and the states after that from which it stems.
 use Rattle.std.proofs.Common.{◌≡◌, ℕ, List, [], ◌∷◌, ◌++◌, refl, ap, sym, ◌∙◌}
 use Rattle.nova_model.specs.Runs.{after, run}
 use Rattle.nova_model.specs.State.{KernelState}

@@ -55,7 +55,7 @@ fn tell(done: CommitDone) -> Told {
     }
 }
 
-/// The machine of a text in which the root makes the guest on the second processor, as it boots.
+/// The machine of `text`, in which the root makes the guest on the second processor, as it boots.
 fn booted(rt: &impl Abort, alloc: Global, text: &str) -> Kernel
     ensures cpus { result.state.cpus ≡ 2 }
     ensures room { result.room ≡ 200 }
@@ -127,7 +127,7 @@ fn is_prepared(rt: &impl Abort, alloc: Global, kernel: &Kernel) -> bool {
     is_prepared
 }
 
-/// A lease of the guest, which has executed the one instruction that it can.
+/// A lease of the guest, which has executed the only instruction that it can.
 #[tactic(auto, using(crate::proofs::Stems::at_once))]
 fn lent(rt: &impl Abort, alloc: Global, kernel: &mut Kernel) -> Lease
     ensures kept { kernel.new ≡ kernel.old }
@@ -141,7 +141,7 @@ fn lent(rt: &impl Abort, alloc: Global, kernel: &mut Kernel) -> Lease
     lent
 }
 
-/// A lease, so many turns of a processor, and a commit with room for `left` turns.
+/// A lease, `turns` turns of the processor `cpu`, and a commit with room for `left` turns.
 fn burst(
     rt: &impl Abort,
     alloc: Global,
@@ -167,7 +167,7 @@ fn eventless(rt: &impl Abort, alloc: Global, kernel: &Kernel) -> Vec<u8> {
     text
 }
 
-/// The report of that machine after those turns and so many more of a processor, without its events.
+/// The report of that machine after those turns and `turns` more of the processor `cpu`, without its events.
 fn after(rt: &impl Abort, alloc: Global, rest: &str, cpu: u32, turns: u64) -> Vec<u8>
     requires cpu { cpu < 2 }
     requires turns { turns ≤ 100 }
@@ -244,7 +244,7 @@ fn ends(rt: &impl Abort, alloc: Global, kernel: &mut Kernel, row: &Row) -> bool
     told == row.told && text.as_slice() == wanted.as_slice()
 }
 
-/// Whether the guest of a row is prepared, and its burst ends so.
+/// Whether the guest of `row` is prepared, and its burst ends so.
 fn is_so(rt: &impl Abort, alloc: Global, row: &Row) -> bool {
     let mut kernel = prepared(rt, alloc, row.rest);
     let is_so = is_prepared(rt, alloc, &kernel) && ends(rt, alloc, &mut kernel, row);

@@ -105,7 +105,7 @@ end
 /// A root that has nothing more to do loops.
 pub const LOOPS: &str = "jal x0, 0\n";
 
-/// The text of some parts.
+/// The text of `parts`, one after another.
 pub fn joined(alloc: Global, parts: &[&str]) -> Result<String, AllocError> {
     let mut text = String::new(alloc);
     for &part in parts {
@@ -140,7 +140,7 @@ pub fn on_second(
     )
 }
 
-/// Such a machine with a root thread at pc 0 and the guest's page alone.
+/// A machine as `on_second` makes it, with a root thread at pc 0 and the guest's page alone.
 pub fn apart(alloc: Global, rest: &str) -> Result<String, AllocError> {
     on_second(alloc, ROOT, rest, PAGE)
 }

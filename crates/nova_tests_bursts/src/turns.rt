@@ -5,7 +5,7 @@ ghost use Rattle.nova_burst.specs.Lending.{ComesAfter, LeaseView};
 use nova_kernel::Kernel;
 use std::alloc::AllocError;
 
-/// So many turns of a processor, after which a lease comes from where it came from.
+/// Takes `turns` turns of the processor `cpu`, after which a lease comes from where it came from.
 #[tactic(auto, using(crate::proofs::Stems::one_more))]
 pub fn take(kernel: &mut Kernel, cpu: u32, turns: u64) -> Result<(), AllocError>
     requires cpu { cpu < kernel.old.state.cpus }

@@ -8,7 +8,7 @@ use nova_tests_bursts::scenarios::{LOOPS, apart, joined};
 use std::alloc::Global;
 use std::process::Abort;
 
-/// The run of a guest apart from a root that loops, along an order of at most 200 turns.
+/// The run of a guest apart from a root that loops, along `order`, of at most 200 turns.
 fn run(rt: &impl Abort, alloc: Global, order: &str) -> Finished {
     let text = apart(alloc, LOOPS).expect(rt, "ample memory");
     let kernel = booted(rt, alloc, text.as_str());
@@ -113,7 +113,7 @@ at 103 1 8 raise 7 0
 at 105 1 8 died 7 0
 ";
 
-/// The report of a run of so many turns with these events of the guest and its monitor, of which the root paid for so many.
+/// The report of a run of `turns` turns with `events`, of the guest and its monitor, of which the root paid for `paid`.
 fn wanted(rt: &impl Abort, alloc: Global, turns: &str, events: &str, paid: &str) -> String {
     let parts = [
         "run open ",
@@ -137,7 +137,7 @@ fn ends_in_a_row(rt: &impl Abort, alloc: Global) -> bool {
     report.as_slice() == wanted.as_bytes()
 }
 
-/// Whether the one that takes them one by one does.
+/// Whether the run that takes them one by one does.
 fn ends_in_turns(rt: &impl Abort, alloc: Global) -> bool {
     let order = in_turns(rt, alloc);
     let report = report_of(rt, alloc, order.as_str());

@@ -11,8 +11,8 @@ use std::process::Abort;
 use std::sync::Wait;
 use std::thread::Threads;
 
-/// What the root executes: for each of seven more processors it makes a thread, and a handler of that one's startup exit, which loops; and then
-/// it loops itself.
+/// What the root executes: for each of seven more processors it makes a thread, and a handler of that thread's startup exit, which loops; and then it
+/// loops itself.
 static WORDS: [u32; 27] = [
     0x0010_0293, // addi x5, x0, 1: the processor
     0x0200_0313, // addi x6, x0, 32: selectors from here on

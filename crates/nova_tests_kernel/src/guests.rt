@@ -120,7 +120,7 @@ fn seen(rt: &impl Abort, alloc: Global, kernel: &Kernel) -> (Guest, (u64, u64))
     (guest, stirs)
 }
 
-/// What a kernel tells, where it charges this scheduling context next.
+/// What `kernel` tells, where it charges this scheduling context next.
 fn tell(rt: &impl Abort, alloc: Global, kernel: &Kernel, sc: u32) -> Told
     requires { 0 < kernel.now.state.cpus }
 {

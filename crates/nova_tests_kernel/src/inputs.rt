@@ -27,7 +27,7 @@ enum Told {
     Foreign(u32, u32, u32, u32),
 }
 
-/// Whether bytes are those of a RAM frame.
+/// Whether `bytes` are those of the RAM frame `frame`.
 fn is_frame(kernel: &Kernel, frame: u32, bytes: &[u8]) -> bool {
     frame < kernel.ram() && bytes == kernel.frame(frame)
 }
@@ -69,7 +69,7 @@ fn tell(kernel: &Kernel, input: &Input) -> Told {
     }
 }
 
-/// What the next turn of a processor is for the guest, if it is there.
+/// What the next turn of the processor `cpu` is for the guest, if it is there.
 fn next(rt: &impl Abort, alloc: Global, kernel: &mut Kernel, cpu: u32) -> Option<Told>
     requires { cpu < kernel.old.state.cpus }
     ensures { kernel.new ≡ kernel.old }
@@ -96,7 +96,7 @@ enum Order {
     Alone,
     /// The guest and its monitor take all their turns after the 38 in which the root makes them; then the root goes on.
     Before,
-    /// After those 38 turns each one of the guest and its monitor is followed by two of the root.
+    /// After those 38 turns each turn of the guest and its monitor is followed by two of the root.
     Mixed,
     /// The root goes on when the guest has its page, and stores to it before the guest loads from it.
     Stored,
@@ -113,7 +113,7 @@ fn processor(order: Order, turn: u32) -> u32 {
     u32::from(is_second)
 }
 
-/// So many turns in this order: those that are something for the guest, each by its number from 1 on, with what it is.
+/// Takes `turns` turns in `order`, and returns those that are something for the guest, each by its number from 1 on, with what it is.
 fn inputs(
     rt: &impl Abort,
     alloc: Global,
@@ -188,12 +188,12 @@ fn have_same_inputs(a: &[(u32, Told)], b: &[(u32, Told)]) -> bool {
     a.len() == b.len()
 }
 
-/// A map as a test compares it.
+/// `map` as a test compares it.
 fn map_of(map: &Map) -> (u32, u8, u8, u32) {
     (map.base, map.order, map.rights.bits(), map.frame)
 }
 
-/// Whether two guests have the same maps.
+/// Whether the guests `a` and `b` have the same maps.
 fn have_same_maps(a: &[Map], b: &[Map]) -> bool {
     for (a, b) in a.iter().zip(b) {
         if map_of(a) != map_of(b) {
@@ -213,7 +213,7 @@ fn have_same_cells(a: &[Cell], b: &[Cell]) -> bool {
     a.len() == b.len()
 }
 
-/// Whether two guests have the same registers, and either both have ended or none.
+/// Whether the guests `a` and `b` have the same registers, and either both have ended or none.
 fn have_same_registers(a: &Guest, b: &Guest) -> bool {
     for n in 0..32 {
         if a.regs.get(n) != b.regs.get(n) {
@@ -225,7 +225,7 @@ fn have_same_registers(a: &Guest, b: &Guest) -> bool {
         && matches!(a.state, GuestState::Dead) == matches!(b.state, GuestState::Dead)
 }
 
-/// Whether two guests have the same maps, bytes and registers.
+/// Whether the guests `a` and `b` have the same maps, bytes and registers.
 fn are_alike(a: &Guest, b: &Guest) -> bool {
     have_same_maps(a.maps.as_slice(), b.maps.as_slice())
         && have_same_cells(a.cells.as_slice(), b.cells.as_slice())
@@ -259,7 +259,7 @@ fn each_turn_is_one_input_of_a_guest_or_nothing(rt: HostRuntime) {
     assert!(rt; is_so);
 }
 
-/// Whether a run has 15 inputs, after which register 11 is 0, and another one has the same.
+/// Whether a run has 15 inputs, after which register 11 is 0, and `other` has the same.
 fn are_equal(run: &GuestRun, other: &GuestRun) -> bool {
     run.inputs.len() == 15
         && run.guest.regs.get(11) == 0
@@ -277,7 +277,7 @@ fn others_may_revoke_delegate_help_and_store_between_equal_inputs(rt: HostRuntim
     assert!(rt; are_equal);
 }
 
-/// Whether a run has 15 inputs, after which register 11 is 0, and another one a store of 7 more, which the guest then loads.
+/// Whether a run has 15 inputs, after which register 11 is 0, and `other` has a store of 7 more, which the guest then loads.
 fn shows_the_store(run: &GuestRun, other: &GuestRun) -> bool {
     run.inputs.len() == 15
         && run.guest.regs.get(11) == 0

@@ -16,7 +16,7 @@ pub const ROOT: Root = Root {
     quantum: 10,
 };
 
-/// Lays words into RAM one after another from an address on, where no turn was taken.
+/// Lays `words` into RAM one after another from `address` on, where no turn was taken.
 pub fn lay(kernel: &mut Kernel, address: u32, words: &[u32])
     requires ram { length kernel.old.state.memory.ram ≤ 2 }
     requires turns { kernel.old.state.turns ≡ 0 }
@@ -31,7 +31,7 @@ pub fn lay(kernel: &mut Kernel, address: u32, words: &[u32])
     }
 }
 
-/// The machine of a scenario as it boots, with room for 200 turns.
+/// The machine of the scenario `text` as it boots, with room for 200 turns.
 pub fn booted(rt: &impl Abort, alloc: Global, text: &str) -> Kernel
     ensures room { result.room ≡ 200 }
     ensures turns { result.state.turns ≡ 0 }

@@ -9,8 +9,8 @@ use nova_tests_bursts::drops::let_go;
 use std::alloc::Global;
 use std::process::Abort;
 
-/// A run of at most so many turns, along an order or by round robin: what it shows, the order of the turns that it takes and whether it
-/// ends quiet, or why there is none.
+/// A run of at most `limit` turns, along an order or by round robin: what it shows, the order of the turns that it takes and whether it ends quiet,
+/// or why there is none.
 #[derive(Clone, Copy)]
 struct Row {
     shows: &'static str,
@@ -81,7 +81,7 @@ fn booted(rt: &impl Abort, alloc: Global) -> Kernel
     Kernel::new(alloc, 2, 0, 0, ROOT, 8).expect(rt, "ample memory")
 }
 
-/// Its run along an order of at most so many turns.
+/// Its run along the order `text`, of at most `limit` turns.
 fn along(rt: &impl Abort, alloc: Global, text: &str, limit: u64) -> Result<Finished, RunFault>
     requires { limit ≤ 8 }
 {
@@ -91,7 +91,7 @@ fn along(rt: &impl Abort, alloc: Global, text: &str, limit: u64) -> Result<Finis
     run
 }
 
-/// The run of a row.
+/// The run of `row`.
 fn run_of(rt: &impl Abort, alloc: Global, row: &Row) -> Result<Finished, RunFault> {
     assert!(rt; row.limit <= 8);
     match row.order {
@@ -100,7 +100,7 @@ fn run_of(rt: &impl Abort, alloc: Global, row: &Row) -> Result<Finished, RunFaul
     }
 }
 
-/// Whether a run comes to what a row says.
+/// Whether a run comes to what `row` says.
 fn is_told(row: &Row, run: &Told) -> bool {
     run.order.as_slice() == row.turns.as_bytes()
         && run.events == run.turns
@@ -108,7 +108,7 @@ fn is_told(row: &Row, run: &Told) -> bool {
         && row.fault == None
 }
 
-/// Whether the run of a row is as the row says.
+/// Whether the run of `row` is as the row says.
 fn is_so(rt: &impl Abort, alloc: Global, row: &Row) -> bool {
     match run_of(rt, alloc, row) {
         Ok(run) => is_told(row, &tell(rt, run)),

@@ -98,7 +98,7 @@ fn trace(rt: &impl Abort, alloc: Global) -> Trace {
     trace
 }
 
-/// Whether what is written of a kernel and of those events is the report.
+/// Whether what is written of `kernel` and of those events is the report.
 fn is_reported(rt: &impl Abort, alloc: Global, kernel: &Kernel, trace: &Trace) -> bool {
     let lines = report(alloc, kernel, trace).expect(rt, "ample memory");
     lines.as_slice() == REPORT.as_bytes()

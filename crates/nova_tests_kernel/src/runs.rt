@@ -22,14 +22,14 @@ fn told_of(rt: &impl Abort, run: &Finished) -> Told {
     }
 }
 
-/// What a run comes to.
+/// What `run` comes to.
 pub fn tell(rt: &impl Abort, run: Finished) -> Told {
     let told = told_of(rt, &run);
     let_go(run);
     told
 }
 
-/// Whether two runs have the same order, and as many events.
+/// Whether `a` and `b` have the same order, and as many events.
 pub fn is_same(a: &Told, b: &Told) -> bool {
     a.order.as_slice() == b.order.as_slice() && a.events == b.events
 }

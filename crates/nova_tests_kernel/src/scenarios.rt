@@ -4,7 +4,7 @@ use nova_tests_bursts::scenarios::{
 };
 use std::alloc::{AllocError, Global};
 
-/// A guest and its monitor on the one processor. The guest is told where it begins, is given a page, has a byte written and ends.
+/// A guest and its monitor on a single processor. The guest is told where it begins, is given a page, has a byte written and ends.
 pub fn served(alloc: Global) -> Result<String, AllocError> {
     joined(
         alloc,

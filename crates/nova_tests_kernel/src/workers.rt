@@ -12,7 +12,7 @@ use std::sync::Wait;
 use std::sync::atomic::{AtomicU64, Ordering};
 use std::thread::Threads;
 
-/// What the root executes: it makes a thread on processor 1, and a handler of that one's startup exit, which loops; and then it loops itself.
+/// What the root executes: it makes a thread on processor 1, and a handler of that thread's startup exit, which loops; and then it loops itself.
 static WORDS: [u32; 20] = [
     0x0030_0893, // addi x17, x0, 3: create_ec
     0x0200_0513, // addi x10, x0, 32
@@ -124,7 +124,7 @@ fn one_thread_takes_the_same_turns_again(rt: HostRuntime) {
     assert!(rt; is_so);
 }
 
-/// How often the worker of an idle processor has to have looked while another one has something to do.
+/// How often the worker of an idle processor has to have looked while another has something to do.
 const AGAIN: u64 = 16;
 
 /// A gate that holds the third call for processor 0 until `AGAIN` calls for processor 1 came, or for 2^28 looks.

@@ -10,7 +10,7 @@ use nova_space::Space;
 use std::alloc::Global;
 use std::process::Abort;
 
-/// How many domains hold page 0, each of them from the one before it.
+/// How many domains hold page 0, each of them from the domain before it.
 const DOMAINS: u32 = 10_000;
 
 /// Page 0.

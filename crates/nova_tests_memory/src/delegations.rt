@@ -38,7 +38,7 @@ fn item(rt: &impl Abort, sent: Pages, window: Pages) -> Job
 /// A protection domain that has nothing.
 pub const STRANGER: u32 = 7;
 
-/// The revoke of all pages of a protection domain.
+/// The revoke of all pages of the protection domain `pd`.
 pub fn revoke_of(pd: u32) -> Revoke {
     let range = Range {
         kind: Kind::Mem,

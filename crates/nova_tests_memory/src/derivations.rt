@@ -28,7 +28,7 @@ fn parent_and_child(rt: &impl Abort, alloc: Global) -> Nodes<Space>
     nodes
 }
 
-/// The id of a derivation, and the first frame or object that it leads to.
+/// The id of `derivation`, and the first frame or object that it leads to.
 fn told(derivation: Option<Derivation>) -> Option<(u32, u32)> {
     let d = derivation?;
     Some((d.id, d.target))

@@ -2,7 +2,8 @@ ghost use Rattle.std.specs.Prelude.{◌≡◌, [], length};
 ghost use Rattle.nova_guest.specs.Conditions.{AreContents, IsGuest, IsInput};
 
 use bitflags::Flags;
-use nova_guest::{Bytes, Cells, Guest, GuestState, Input, Maps, Out, alone};
+use nova_alone::alone;
+use nova_guest::{Bytes, Cells, Guest, GuestState, Input, Maps, Out};
 use nova_range::{Mtd, Rights};
 use rv_core::Regs;
 use std::alloc::Global;
@@ -39,7 +40,7 @@ fn apply(rt: &impl Abort, guest: &mut Guest, input: Input) -> Option<Out>
     requires input { IsInput input }
     ensures { IsGuest guest.new }
 {
-    guest.apply(&input).expect(rt, "ample memory")
+    nova_alone::apply(guest, &input).expect(rt, "ample memory")
 }
 
 /// A page that begins with these words.
@@ -98,7 +99,7 @@ fn store(rt: &impl Abort, guest: &mut Guest, frame: u32)
     apply(rt, guest, stored);
 }
 
-/// So many turns of its own, with what they put out.
+/// Takes `turns` turns of the guest's own, and notes what they put out in `outs`.
 fn run(rt: &impl Abort, guest: &mut Guest, turns: u32, outs: &mut Vec<[u32; 4]>)
     requires { IsGuest guest.old }
     ensures { IsGuest guest.new }
@@ -115,8 +116,7 @@ fn counts(guest: &Guest) -> (usize, usize) {
     (guest.maps.as_slice().len(), guest.cells.as_slice().len())
 }
 
-/// A state as four numbers: all 0 at birth; 1, a reason and two qualifications of an exit that is
-/// raised; 2 for each other.
+/// `state` as four numbers: all 0 at birth; 1, a reason and two qualifications of an exit that is raised; 2 for each other.
 fn told(state: &GuestState) -> [u32; 4] {
     match state {
         GuestState::Fresh => [0; 4],

@@ -22,7 +22,7 @@ const PAGE_RANGE: Range = Range {
     order: 0,
 };
 
-/// A revoke of page 0 by a domain.
+/// A revoke of page 0 by the domain `pd`.
 fn of_page(pd: u32) -> Revoke {
     Revoke {
         pd,
@@ -31,7 +31,7 @@ fn of_page(pd: u32) -> Revoke {
     }
 }
 
-/// Gives page 0 of a domain on to the next one, as far as its window goes, while these revokes run.
+/// Gives page 0 of the domain `pd` on to the next one, as far as its window goes, while these revokes run.
 fn give_on(
     rt: &impl Abort,
     nodes: &mut Nodes<Space>,

@@ -2,8 +2,8 @@ use nova_objects::{EcKind, Object, Objects};
 use std::alloc::Global;
 use std::process::Abort;
 
-/// An object as a test compares it: 0 for none, 1 for a protection domain, 2 and the base of its event
-/// selectors for an execution context, 3 for any other.
+/// `object` as a test compares it: 0 for none, 1 for a protection domain, 2 and the base of its event selectors
+/// for an execution context, 3 for any other.
 fn told(object: Option<&Object>) -> (u8, u32) {
     match object {
         None => (0, 0),

@@ -14,13 +14,13 @@ use std::process::Abort;
 pub enum PartDone {
     /// It made the child of this id.
     Made(u32),
-    /// It skipped a derivation for this reason. The derivation's places of the source begin at this one.
+    /// It skipped a derivation for this reason. The derivation's places of the source begin at this place.
     Skipped(Reason, u32),
     /// No derivation was left.
     Ended,
 }
 
-/// Adds a child, and answers its id.
+/// Adds `child`, and answers its id.
 fn add(rt: &impl Abort, nodes: &mut Nodes<Space>, child: &Derivation) -> u32
     requires next { nodes.old.delegations.next < 2 ^ 32 - 1 }
     requires child { IsReady nodes.old.delegations child.now }
@@ -33,7 +33,7 @@ fn add(rt: &impl Abort, nodes: &mut Nodes<Space>, child: &Derivation) -> u32
     nodes.child(parent, child.pd, child.range(), child.rights, child.target)
 }
 
-/// Gives the next part of an item while these revokes run, and the item goes on behind it.
+/// Gives the next part of `item` while `revokes` run, and the item goes on behind it.
 pub fn give(
     rt: &impl Abort,
     nodes: &mut Nodes<Space>,
@@ -56,7 +56,7 @@ pub fn give(
     }
 }
 
-/// Takes the next leaf of a revoke, and answers its id and domain; nothing where none is left.
+/// Takes the next leaf of `revoke`, and answers its id and domain; nothing where none is left.
 pub fn take(nodes: &mut Nodes<Space>, revoke: &Revoke) -> Option<(u32, u32)>
     ensures { nodes.new.delegations.next ≤ nodes.old.delegations.next }
 {

@@ -18,7 +18,7 @@ fn read_back(word: u32) -> Option<(Fields, u32)> {
     }
 }
 
-/// What reading a word comes to, as a number: 0 for a range, 1 to 3 for a fault, 4 for null.
+/// What reading `word` comes to, as a number: 0 for a range, 1 to 3 for a fault, 4 for null.
 fn told(word: u32) -> u32 {
     match read_word(word) {
         Ok(Some(_)) => 0,

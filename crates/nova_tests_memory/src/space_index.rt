@@ -3,7 +3,7 @@ use nova_space::Space;
 use std::alloc::Global;
 use std::process::Abort;
 
-/// The base and the key of the first range from a place on.
+/// The base and the key of the first range from `place` on.
 fn first_from(space: &Space, place: u32) -> Option<(u32, u32)> {
     let (range, key) = space.first_from(place)?;
     Some((range.base, key))

@@ -10,7 +10,7 @@ use nova_space::Space;
 use std::alloc::Global;
 use std::process::Abort;
 
-/// Gives what a range word says from one protection domain to another, in one part.
+/// Gives what the range word `sent` says from the protection domain `from` to `to`, in one part.
 pub fn give(rt: &impl Abort, nodes: &mut Nodes<Space>, from: u32, to: u32, sent: u32, window: u32)
     requires { nodes.old.delegations.next < 2 ^ 32 - 1 }
     ensures { nodes.new.delegations.next ≤ nodes.old.delegations.next + 1 }

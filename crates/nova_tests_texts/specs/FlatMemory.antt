@@ -3,12 +3,12 @@
 use Rattle.std.specs.Prelude.{ℕ, zero, suc, ◌+◌, ◌*◌, ◌/◌, ◌%◌, ◌&&◌, Bool, nat_lt, nat_le, List, Option, Some, None, if◌then◌else◌, slice_index, slice_set}
 use Rattle.rv_model.specs.Step.{Store}
 
--- the number in so many bytes, of which the first is the lowest
+-- the number in `width` bytes, of which the first is the lowest
 abbrev pub number_at : List ℕ → ℕ → ℕ → ℕ
 number_at bytes address zero = 0
 number_at bytes address (suc width) = slice_index bytes address + number_at bytes (address + 1) width * 256
 
--- the bytes with a number put into so many of them
+-- the bytes with `number` put into `width` of them
 abbrev pub with_number : List ℕ → ℕ → ℕ → ℕ → List ℕ
 with_number bytes address zero number = bytes
 with_number bytes address (suc width) number = with_number (slice_set bytes address (number % 256)) (address + 1) width (number / 256)

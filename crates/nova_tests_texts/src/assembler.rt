@@ -5,13 +5,13 @@ use std::alloc::{AllocError, Global};
 use std::process::Abort;
 use std::test::Fail;
 
-/// Asserts the words of a text.
+/// Asserts the words of `text`.
 fn assert_words(rt: &impl Abort, alloc: Global, text: &[u8], wanted: &[u32]) {
     let words = assemble(alloc, text).expect(rt, "words");
     assert!(rt; words.as_slice() == wanted, "{text:?}");
 }
 
-/// Asserts that a text has a fault.
+/// Asserts that `text` has a fault.
 fn assert_fault(rt: &impl Abort, alloc: Global, text: &[u8], fault: AsmFault) {
     let found = assemble(alloc, text).err();
     assert!(rt; found == Some(fault), "{text:?}");
@@ -243,7 +243,7 @@ fn labels_given_twice_are_refused(rt: HostRuntime) {
     }
 }
 
-/// A text with so many lines of `nop` between two parts.
+/// A text with `lines` lines of `nop` between `front` and `back`.
 fn with_nops(
     alloc: Global,
     front: &[u8],
@@ -259,7 +259,7 @@ fn with_nops(
     Ok(text)
 }
 
-/// Texts with so many lines of `nop` in them, and how many words they have. The last has more than a MiB.
+/// Texts with some lines of `nop` in them, and how many words they have. The last has more than a MiB.
 static LABELS_IN_REACH: [(&[u8], usize, &[u8], usize); 3] = [
     (b"beq x0, x0, to\n", 1022, b"to:", 1023),
     (b"to:\n", 1024, b"beq x0, x0, to", 1025),
@@ -310,7 +310,7 @@ static PRINTED: [(u32, &str); 14] = [
     (0x0010_0073, "ebreak"),
 ];
 
-/// Asserts how the instruction of a word is printed, and that the text is assembled as that word.
+/// Asserts how the instruction of `word` is printed, and that the text is assembled as that word.
 fn assert_printed(rt: &impl Abort, alloc: Global, word: u32, wanted: &str) {
     let instr = decode(word).expect(rt, "an instruction");
     let text = print(alloc, &instr).expect(rt, "ample memory");

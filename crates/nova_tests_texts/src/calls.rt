@@ -8,7 +8,7 @@ const LAST: u32 = 0xf_ffff;
 /// The first number after the selectors.
 const BEYOND: u32 = 0x10_0000;
 
-/// A range in numbers: the type of its words, its base and its order.
+/// `range` in numbers: the type of its words, its base and its order.
 fn place(range: Range) -> [u32; 3] {
     let kind = match range.kind {
         Kind::Mem => 1,
@@ -93,7 +93,7 @@ fn creation_numbers(call: Call) -> [u32; 7] {
     }
 }
 
-/// What is read with a number in x17 and arguments from x10 on: the call in numbers, or the status.
+/// What is read with `number` in x17 and arguments from x10 on: the call in numbers, or the status.
 fn reading(number: u32, arguments: [u32; 5]) -> Result<[u32; 7], u32> {
     let mut regs = Regs::new(0, 0);
     regs.set(17, number);

@@ -3,7 +3,7 @@ use std::alloc::{AllocError, Global};
 use std::process::Abort;
 use std::test::Fail;
 
-/// The words of a line.
+/// The words of `line`.
 fn words_of(alloc: Global, line: &str) -> Result<Vec<String>, AllocError> {
     let mut words = Vec::new(alloc);
     for word in line.split_whitespace() {
@@ -33,7 +33,7 @@ fn run_text(alloc: Global, name: &str, order: &str, limit: u32) -> Result<String
     format!(in alloc; "run {name} together for {limit} into {order}")
 }
 
-/// A command as text.
+/// `command` as text.
 fn text_of(alloc: Global, command: &Command) -> Result<String, AllocError> {
     match command {
         Command::Solo {
@@ -58,7 +58,7 @@ fn text_of(alloc: Global, command: &Command) -> Result<String, AllocError> {
     }
 }
 
-/// What a line of words asks for, as text.
+/// What the line of words `line` asks for, as text.
 fn asked(alloc: Global, line: &str) -> Result<String, AllocError> {
     let words = words_of(alloc, line)?;
     match read_command(alloc, &words) {
@@ -67,7 +67,7 @@ fn asked(alloc: Global, line: &str) -> Result<String, AllocError> {
     }
 }
 
-/// Asserts what a line of words asks for.
+/// Asserts what the line of words `line` asks for.
 fn assert_asked(rt: &impl Abort, alloc: Global, line: &str, meant: &str) {
     let read = asked(alloc, line).expect(rt, "ample memory");
     assert!(rt; read.as_str() == meant, "{line}");
@@ -158,7 +158,7 @@ fn refuses_other_words(rt: HostRuntime) {
     }
 }
 
-/// The file of the scenario that a line of words asks to check, and an empty text where it asks for anything else.
+/// The file of the scenario that the line of words `line` asks to check, and an empty text where it asks for anything else.
 fn checked(alloc: Global, line: &str) -> Result<String, CommandFault> {
     let words = words_of(alloc, line)?;
     match read_command(alloc, &words)? {

@@ -61,7 +61,7 @@ static MENDED: [(usize, u32, Option<ElfFault>); 12] = [
     (100, 0x0000_0074, None),
 ];
 
-/// Puts a word at a place.
+/// Puts `word` at `place`.
 fn put(bytes: &mut Vec<u8>, place: usize, word: u32) {
     for (index, byte) in word.to_le_bytes().into_iter().enumerate() {
         if let Some(old) = bytes.get_mut(place.saturating_add(index)) {
@@ -70,7 +70,7 @@ fn put(bytes: &mut Vec<u8>, place: usize, word: u32) {
     }
 }
 
-/// The executable with another word at a place.
+/// The executable with another word at `place`.
 fn changed(alloc: Global, place: usize, word: u32) -> Result<Vec<u8>, AllocError> {
     let mut bytes = Vec::from_slice(alloc, EXECUTABLE)?;
     put(&mut bytes, place, word);

@@ -8,7 +8,7 @@ use std::process::Abort;
 /// An instruction as the tests have it: its name, rd, rs1 and rs2, and its immediate. An operand that the instruction lacks is 0.
 type Line = (&'static str, [u32; 3], i64);
 
-/// A number as a word, which is counted up from 0 and down from 2^32.
+/// `number` as a word, which is counted up from 0 and down from 2^32.
 fn word(number: i64) -> u32 {
     u32::try_from(number.rem_euclid(0x1_0000_0000)).unwrap_or(0)
 }

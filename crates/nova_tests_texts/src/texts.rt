@@ -21,7 +21,7 @@ static TEXTS: [(&[u8], &[LineParts<'static>]); 7] = [
     ),
 ];
 
-/// The lines of a text.
+/// The lines of `text`.
 fn lines_of<'a>(alloc: Global, text: &'a [u8]) -> Result<Vec<LineParts<'a>>, AllocError> {
     let mut found = Vec::new(alloc);
     for line in Lines::new(text) {
@@ -57,7 +57,7 @@ static LINES: [(&[u8], &[TokenParts<'static>]); 8] = [
     (b"a\x0bb", &[(b"a\x0bb", 100, 103)]),
 ];
 
-/// The tokens of a line, or the first eight of them.
+/// The tokens of `line`, or the first eight of them.
 fn tokens_of<'a>(alloc: Global, line: Line<'a>) -> Result<Vec<TokenParts<'a>>, AllocError> {
     let mut line = line;
     let mut found = Vec::new(alloc);

@@ -10,7 +10,7 @@ use rv_model::Regs;
 use std::alloc::{AllocError, Global};
 use std::process::Abort;
 
-/// Two threads, two handlers, one that is dead, and a handler on another processor.
+/// Two threads, two handlers, a dead one, and a handler on another processor.
 const ROOT: u32 = 0;
 
 const OTHER: u32 = 1;
@@ -90,7 +90,7 @@ fn reply(rt: &impl Abort, ecs: &mut Ecs, handler: u32) {
     complete(ecs, handler);
 }
 
-/// What an execution context is about to do, as a number, its pc, and x10.
+/// What the execution context `ec` is about to do, as a number, its pc, and x10.
 fn shown(rt: &impl Abort, ecs: &Ecs, ec: u32) -> (u32, u32, u32) {
     let context = ecs.get(ec).expect(rt, "an execution context");
     let state = match context.state {

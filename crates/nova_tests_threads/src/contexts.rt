@@ -41,8 +41,7 @@ fn turns_go_along_edges(rt: HostRuntime) {
     assert!(rt; (ends, circles) == ([2, 2, 0], [true, false]));
 }
 
-/// The words of a handler at its start, and of its caller after the answer: pc and x10 of both, and the
-/// caller's x11.
+/// The words of `handler` at its start, and of its caller after the answer: pc and x10 of both, and the caller's x11.
 fn words(handler: &EcState, caller: &EcState) -> [u32; 5] {
     [
         handler.regs.pc(),

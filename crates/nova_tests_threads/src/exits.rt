@@ -109,7 +109,7 @@ fn reply(rt: &impl Abort, ecs: &mut Ecs, message: &Utcb, handler: u32) {
     write_back(ecs, message, handler);
 }
 
-/// What an execution context is about to do, as a number, and its pc, x1 and x10.
+/// What the execution context `ec` is about to do, as a number, and its pc, x1 and x10.
 fn shown(rt: &impl Abort, ecs: &Ecs, ec: u32) -> (u32, u32, u32, u32) {
     let context = ecs.get(ec).expect(rt, "an execution context");
     let state = match context.state {
@@ -124,7 +124,7 @@ fn shown(rt: &impl Abort, ecs: &Ecs, ec: u32) -> (u32, u32, u32, u32) {
     (state, regs.pc(), regs.get(1), regs.get(10))
 }
 
-/// Who raises an exit, to whom, and what comes of it.
+/// Which context raises an exit, to which handler, and what comes of it.
 static EXITS: [(u32, u32, u32); 7] = [
     (ROOT, HANDLER, SENT),
     // A busy handler.
@@ -138,7 +138,7 @@ static EXITS: [(u32, u32, u32); 7] = [
     (FAR, NOBODY, DIES),
 ];
 
-/// An exit of an execution context that is there, with all groups: what comes of it.
+/// An exit of the execution context `ec`, which is there, with all groups: what comes of it.
 fn come(rt: &impl Abort, ecs: &mut Ecs, to: &mut Utcb, ec: u32, handler: u32) -> Option<u32> {
     ecs.get(ec).expect(rt, "an execution context");
     raise(ecs, ec, 3, 77, 88);
@@ -244,7 +244,7 @@ static BACK: [(u32, [u32; 6]); 4] = [
 ];
 
 /// A thread's exit with no group is sent, and its handler replies with words of which word 4 names these
-/// groups: what came of the exit, whether the handler serves nobody, and the thread's registers.
+/// groups: what came of the exit, whether the handler serves none, and the thread's registers.
 fn replied(rt: &impl Abort, ecs: &mut Ecs, groups: u32) -> (Option<u32>, bool, [u32; 6]) {
     ecs.get(ROOT).expect(rt, "a thread");
     ecs.resume(ROOT, &registers());

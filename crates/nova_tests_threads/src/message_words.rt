@@ -91,9 +91,9 @@ fn items_lie_from_the_last_word_down(rt: HostRuntime) {
     assert!(rt; items == [(126, 127), (124, 125), (4, 5)]);
 }
 
-/// Copies a message that has its counts to one whose words are 5000 and their numbers, or were copied
-/// before. It answers word 0, and whether words 1 to 3 are of 5000, those from 4 to `end - 1` of 1000,
-/// and the others of 5000. `end` is at least 4 and at most 128.
+/// Copies a message that has its counts to a message whose words are 5000 and their numbers, or were copied
+/// before. It answers word 0, and whether words 1 to 3 are of 5000, those from 4 to `end - 1` of 1000, and the
+/// others of 5000. `end` is at least 4 and at most 128.
 fn copied(rt: &impl Abort, from: &Utcb, to: &mut Utcb, end: usize) -> (u32, [bool; 3])
     requires { end ≤ 128 }
 {

@@ -4,7 +4,7 @@ ghost use Rattle.nova_sched.specs.Queues.{added, marked};
 use nova_sched::Queues;
 use std::process::Abort;
 
-/// Adds a scheduling context that is runnable.
+/// Adds the scheduling context `sc`, which is runnable.
 fn add(rt: &impl Abort, queues: &mut Queues, sc: u32, cpu: u32, priority: u8, quantum: u32)
     requires number { length queues.old.all.entries ≤ sc }
     requires cpu { cpu < queues.old.all.cpus }

@@ -15,7 +15,7 @@ fn add(rt: &impl Abort, sems: &mut Sems, count: Option<u32>)
     sems.add(count);
 }
 
-/// What an up came to, as a number: the one that is woken, 100 for none, 200 for an overflow.
+/// What an up came to, as a number: the context that is woken, 100 for none, 200 for an overflow.
 fn woken_by(up: Result<Option<u32>, Overflow>) -> u32 {
     match up {
         Ok(Some(ec)) => ec,

@@ -1,4 +1,4 @@
-// Message words, calls and replies with their items, and one that helps a handler.
+// Message words, calls and replies with their items, and a caller that helps a handler.
 use crate::rows::{Run, run_all};
 
 /// Message words as memory, and what is refused or aborted.
@@ -35,7 +35,7 @@ static REFUSALS: [Run; 5] = [
     ],
 ];
 
-/// What calls and replies carry, and who helps.
+/// What calls and replies carry, and which callers help.
 static TRANSFERS: [Run; 3] = [
     [
         "a call with a delegation and a translation, and a reply with a translation",

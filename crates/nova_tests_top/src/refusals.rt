@@ -42,7 +42,7 @@ const RUN: Refusal = Refusal {
     ..SOLO
 };
 
-/// The number of the one call that is to fail.
+/// The number of the only call that is to fail.
 fn only(rt: &impl Abort, alloc: Global, number: u64) -> Vec<u64> {
     Vec::from_slice(alloc, &[number]).expect(rt, "ample memory")
 }
@@ -59,7 +59,7 @@ fn depot_of(rt: &impl Abort, alloc: Global, refusal: &Refusal) -> MemDepot {
     depot
 }
 
-/// Whether a call ends as it is to, and has put out so much and no more.
+/// Whether the call of `refusal` ends as it is to, and has put out what it is to and no more.
 fn is_so<R: Abort + Threads + Wait + Sync>(rt: &R, alloc: Global, refusal: &Refusal) -> bool {
     let mut depot = depot_of(rt, alloc, refusal);
     let writes = only(rt, alloc, refusal.write);

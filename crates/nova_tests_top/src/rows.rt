@@ -6,8 +6,7 @@ use std::process::Abort;
 use std::sync::Wait;
 use std::thread::Threads;
 
-/// A call with the file `scenario`, the file `order` where one is given, and a sink of so much room: what it shows, its end, and what
-/// it writes.
+/// A call with the file `scenario`, the file `order` where one is given, and a sink of `room` bytes: what it shows, its end, and what it writes.
 #[derive(Clone, Copy)]
 pub struct Row {
     pub shows: &'static str,
@@ -25,7 +24,7 @@ pub type Run = [&'static str; 4];
 /// Two processors, and a root that dies in its second turn.
 pub const ENDS: &str = "cpus 2\nram 0\nconsoles 0\nroot 0 0 1 10\nimage 0 hex\n00100073\nend\n";
 
-/// A file of a depot, with room for so many bytes more.
+/// The file `name` of a depot with the bytes of `text`, and room for `room` bytes more.
 pub fn file(rt: &impl Abort, alloc: Global, name: &str, text: &str, room: u64) -> MemFile {
     MemFile {
         name: String::from_str(alloc, name).expect(rt, "ample memory"),
@@ -44,7 +43,7 @@ fn words_of(rt: &impl Abort, alloc: Global, line: &str) -> Vec<String> {
     words
 }
 
-/// The files of a row.
+/// The files of `row`.
 fn files_of(rt: &impl Abort, alloc: Global, row: &Row, room: u64) -> Vec<MemFile> {
     let scenario = file(rt, alloc, "scenario", row.scenario, 0);
     let mut files = Vec::with_capacity(alloc, 2).expect(rt, "ample memory");
@@ -55,15 +54,14 @@ fn files_of(rt: &impl Abort, alloc: Global, row: &Row, room: u64) -> Vec<MemFile
     files
 }
 
-/// A depot with the files of a row. The order has room for so many bytes more, and the append of this number fails; none has the
-/// number 0.
+/// A depot with the files of `row`. The order has room for `room` bytes more, and the append of number `failing` fails; none has the number 0.
 pub fn depot_of(rt: &impl Abort, alloc: Global, row: &Row, room: u64, failing: u64) -> MemDepot {
     let files = files_of(rt, alloc, row, room);
     let failing = Vec::from_slice(alloc, &[failing]).expect(rt, "ample memory");
     MemDepot::new(alloc, files, Vec::new(alloc), failing).expect(rt, "ample memory")
 }
 
-/// Makes a call with these words, in which workers pass this gate.
+/// Makes a call with the words `line`, in which workers pass `gate`.
 pub fn call_through<R: Abort + Threads + Wait + Sync, O: Sink, G: Gate + Sync>(
     rt: &R,
     alloc: Global,
@@ -76,7 +74,7 @@ pub fn call_through<R: Abort + Threads + Wait + Sync, O: Sink, G: Gate + Sync>(
     nova_main(rt, alloc, &words, depot, out, gate)
 }
 
-/// Makes a call with these words.
+/// Makes a call with the words `line`.
 pub fn call<R: Abort + Threads + Wait + Sync, O: Sink>(
     rt: &R,
     alloc: Global,
@@ -87,7 +85,7 @@ pub fn call<R: Abort + Threads + Wait + Sync, O: Sink>(
     call_through(rt, alloc, line, depot, out, &Open)
 }
 
-/// Makes the call of a row, and tells whether its end and its text are the row's.
+/// Makes the call of `row`, and tells whether its end and its text are the row's.
 pub fn ends_so<R: Abort + Threads + Wait + Sync>(
     rt: &R,
     alloc: Global,
@@ -99,14 +97,14 @@ pub fn ends_so<R: Abort + Threads + Wait + Sync>(
     exit == row.exit && out.bytes() == row.text.as_bytes()
 }
 
-/// Makes the call of a row, and compares its end and its text with the row's.
+/// Makes the call of `row`, and compares its end and its text with the row's.
 pub fn run_row<R: Abort + Threads + Wait + Sync>(rt: &R, alloc: Global, row: &Row) {
     let mut depot = depot_of(rt, alloc, row, 0, 0);
     let is_so = ends_so(rt, alloc, row, &mut depot);
     assert!(rt; is_so, "{}", row.shows);
 }
 
-/// Makes the calls of all these rows.
+/// Makes the calls of all `rows`.
 pub fn run_rows<R: Abort + Threads + Wait + Sync>(rt: &R, alloc: Global, rows: &[Row]) {
     for row in rows {
         run_row(rt, alloc, row);
@@ -132,7 +130,7 @@ fn row_of(run: &Run) -> Row {
     }
 }
 
-/// Makes the calls of all these runs.
+/// Makes the calls of all `runs`.
 pub fn run_all<R: Abort + Threads + Wait + Sync>(rt: &R, alloc: Global, runs: &[Run]) {
     for run in runs {
         run_row(rt, alloc, &row_of(run));

@@ -8,8 +8,8 @@ use std::process::Abort;
 use std::sync::Wait;
 use std::thread::Threads;
 
-/// A call with an order that has room for so many bytes more, and the number of the append that is to fail, from 1, or 0; and the bytes of
-/// the order after it.
+/// A call with an order that has room for `room` bytes more, and the number of the append that is to fail, from 1, or 0; and the bytes of the order
+/// after it.
 #[derive(Clone, Copy)]
 struct Appending {
     row: Row,

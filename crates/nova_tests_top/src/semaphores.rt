@@ -1,4 +1,4 @@
-// Semaphores: who waits, and who is woken.
+// Semaphores: which contexts wait, and which is woken.
 use crate::rows::{Run, run_all};
 
 static RUNS: [Run; 2] = [

@@ -1,4 +1,4 @@
-// Deadlines: who waits to a moment, and what comes first.
+// Deadlines: which contexts wait to a moment, and what comes first.
 use crate::rows::{Row, Run, run_all, run_rows};
 use nova_top::Exit;
 

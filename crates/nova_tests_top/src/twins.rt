@@ -241,7 +241,7 @@ fn depot_with(rt: &impl Abort, alloc: Global, pair: &str) -> MemDepot {
     MemDepot::new(alloc, files, Vec::new(alloc), Vec::new(alloc)).expect(rt, "ample memory")
 }
 
-/// Makes a call over a text of two guests and a sink of so much room, and tells whether its end and what is written are these.
+/// Makes a call over a text of two guests and a sink of `room` bytes, and tells whether its end and what is written are these.
 fn ends_so<R: Abort + Threads + Wait + Sync>(
     rt: &R,
     alloc: Global,
@@ -327,7 +327,7 @@ fn other_calls_end_so(rt: HostRuntime) {
     }
 }
 
-/// How a call ends whose text of two guests has so many bytes of one line.
+/// How a call ends whose text of two guests has `count` bytes of one line.
 fn end_of_long<R: Abort + Threads + Wait + Sync>(rt: &R, alloc: Global, count: u64) -> Exit {
     let mut pair = String::new(alloc);
     for _ in 0..count {

@@ -4,10 +4,12 @@ ghost use Rattle.nova_scenario.specs.Sound.{IsSound};
 ghost use Rattle.nova_twin.specs.Sides.{IsBeginning, IsSide};
 
 use nova_boot::boot;
+use nova_finished::RunFault;
+use nova_following::collect;
 use nova_kernel::Kernel;
 use nova_order::Order;
 use nova_scenario::{Scenario, read};
-use nova_twin::{RunFault, Side, Verdict, collect, compare};
+use nova_twin::{Side, Verdict, compare};
 use std::alloc::Global;
 use std::process::Abort;
 
@@ -46,7 +48,7 @@ static WHOLE: Run = Run {
 /// What is found of the whole run and another.
 #[derive(Clone, Copy, PartialEq)]
 enum Found {
-    /// After so many inputs, with this many pairs, of which this is the first.
+    /// After this many inputs, with this many pairs, of which this is the first.
     Equal(u64, usize, Option<(u32, u32)>),
     Views,
     Differ(u64),
@@ -142,7 +144,7 @@ fn text_of(rt: &impl Abort, alloc: Global, run: &Run) -> String {
     text
 }
 
-/// The kernel that a scenario begins with.
+/// The kernel that `scenario` begins with.
 fn begin(rt: &impl Abort, alloc: Global, scenario: &Scenario) -> Kernel
     requires { IsSound scenario.now }
     ensures begins { IsBeginning result.state }

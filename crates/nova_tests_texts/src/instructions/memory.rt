@@ -10,7 +10,7 @@ pub struct FlatMemory {
 }
 
 impl FlatMemory {
-    /// Puts a word into the four bytes from a place on.
+    /// Puts `word` into the four bytes from `at` on.
     pub fn place(&mut self, at: usize, word: u32)
         requires { at + 4 ≤ 512 }
     {

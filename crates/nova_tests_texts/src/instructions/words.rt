@@ -4,7 +4,7 @@ use rv_core::{Operands, decode, encode, table};
 /// A word as the name, the registers and the immediate of an instruction.
 type Reading = (&'static str, [u32; 3], u32);
 
-/// How a word is read, where it is an instruction.
+/// How `word` is read, where it is an instruction.
 fn reading(word: u32) -> Option<Reading> {
     let instr = decode(word)?;
     let Operands { rd, rs1, rs2, imm } = table::operands(&instr);

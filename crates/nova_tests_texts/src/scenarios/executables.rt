@@ -27,7 +27,7 @@ static CHANGED: [(usize, &[u8], Why); 10] = [
     (0, b"7g", Syntax),
 ];
 
-/// What stands in the place of an executable, or after one that lies at 0.
+/// What stands in the place of an executable, or after an executable that lies at 0.
 static OTHERS: [(&[u8], u64, Why); 10] = [
     (b"", 5, Missing),
     (b"image 0 hex\n00100073\nend", 8, Missing),
@@ -76,7 +76,7 @@ fn text_of(alloc: Global, parts: &[&[u8]]) -> Result<Vec<u8>, AllocError> {
     Ok(text)
 }
 
-/// A scenario with the executable, which has other digits from a place on.
+/// A scenario with the executable, which has other digits from `place` on.
 fn changed(alloc: Global, place: usize, digits: &[u8]) -> Result<Vec<u8>, AllocError> {
     let mut bytes = Vec::from_slice(alloc, EBREAK)?;
     for (index, digit) in digits.iter().enumerate() {
