@@ -3,10 +3,10 @@ docs/DEFINITIONS.md with the files of definitions, and scenarios of specificatio
 
 python3 tools/definitions [--write] [FOLDER]
 
-Fails where a definition of the model is missing from the table of docs/PINS.md, where the table has a name that no definition has, where it
-credits a law or a clause that isn't there, or a law of another crate; and where a row of docs/THEOREMS.md links to a function that isn't in
-the file, or names a clause that the function's contract hasn't, or an edit that no crate has, or where no row has a clause of a top call, a
-line isn't the first sentence of its comment, or the table of other laws isn't what those without a row above say; where a row of
+Fails where a definition of the model, but a type, is missing from the table of docs/PINS.md, where the table has a name that no definition
+has, where it credits a law or a clause that isn't there, or a law of another crate; and where a row of docs/THEOREMS.md links to a function
+that isn't in the file, or names a clause that the function's contract hasn't, or an edit that no crate has, or where no row has a clause of a
+top call, a line isn't the first sentence of its comment, or the table of other laws isn't what those without a row above say; where a row of
 docs/DEFINITIONS.md isn't what its file says, or a file has none; and where a scenario of a specification isn't word for word the text of its
 name. `--write` writes these lines, that table and the rows of docs/DEFINITIONS.md anew.
 """
@@ -20,7 +20,7 @@ from pathlib import Path
 import index
 import others
 import sentences
-from names import defined, laws_of
+from names import defined, laws_of, types
 from rows import WHOLE, edits_gone, missing, unnamed
 from scenarios import differing
 from table import Row, read, wrong
@@ -43,11 +43,11 @@ def parser() -> argparse.ArgumentParser:
 
 
 def named_wrong(rows: list[Row], top: Path) -> list[str]:
-    """The definitions of the model that no row names, and the names that no definition has, a line each."""
+    """The definitions of the model, but its types, that no row names, and the names that no definition has, a line each."""
     named = {name for row in rows for name in row.definitions}
     model = defined(top / "crates/nova_model/specs")
     known = model.union(*(defined(folder) for folder in top.glob("crates/*/specs") if folder.parent.name != "nova_model"))
-    missing = [f"missing from the table: {name}" for name in sorted(model - named)]
+    missing = [f"missing from the table: {name}" for name in sorted(model - types(top / "crates/nova_model/specs") - named)]
     return missing + [f"no definition: {name}" for name in sorted(named - known)]
 
 

@@ -9,6 +9,8 @@ from pathlib import Path
 
 # A public definition begins at the start of its line: `abbrev pub x : T`, `pub record X (..) : T where`.
 DEFINITION = re.compile(r"^(?:[a-z]+ )?pub (?:record |data )?(\S+)", re.MULTILINE)
+# A type of numbers, lists or fields, with nothing in it to pin: `abbrev pub X : Type 0`, `pub record X : Type 0 where`.
+TYPE = re.compile(r"^(?:abbrev )?pub (?:record )?(\w+) : Type 0(?: where)?$", re.MULTILINE)
 # A law is a public function that takes nothing and gives nothing; its contract ends where its body begins.
 LAW = re.compile(r"^pub fn (\w+)\(\)\n(.*?)^\{", re.MULTILINE | re.DOTALL)
 CLAUSE = re.compile(r"^ +ensures (\w+) \{", re.MULTILINE)
@@ -29,6 +31,11 @@ def defined(folder: Path) -> set[str]:
     files = {file.stem: names_in(file.read_text("utf-8")) for file in folder.glob("*.antt")}
     often = Counter(name for names in files.values() for name in names)
     return {name if often[name] == 1 else f"{file}.{name}" for file, names in files.items() for name in names}
+
+
+def types(folder: Path) -> set[str]:
+    """The types among the definitions of a folder of specs."""
+    return {name for file in folder.glob("*.antt") for name in TYPE.findall(file.read_text("utf-8"))}
 
 
 def names_in(text: str) -> set[str]:

@@ -18,7 +18,7 @@ MUTANTS = "## Mutants"
 WHOLE = (
     ("nova_main", "crates/nova_top/src/main_call.rt"),
     ("policy_main", "crates/nova_policy_top/src/main_call.rt"),
-    ("IsRun", "crates/nova_top/specs/Runs.antt"),
+    ("IsRun", "crates/nova_answers/specs/Runs.antt"),
 )
 LINK = re.compile(r"\[`([^`]+)`\]\(\.\./(crates/[^)#]+)\)([^\[]*)")
 NAME = re.compile(r"`([^`]+)`")

@@ -15,7 +15,7 @@ sys.path.insert(0, str(TOP))
 
 from heads import crate_summary, layers, shortened, summary  # noqa: E402
 from index import stale, without_name, written  # noqa: E402
-from names import Law, defined, laws_of, names_in  # noqa: E402
+from names import Law, defined, laws_of, names_in, types  # noqa: E402
 from others import stale as stale_laws  # noqa: E402
 from others import written as with_laws  # noqa: E402
 from rows import Link, contracts, edits_gone, links, missing, unnamed  # noqa: E402
@@ -338,6 +338,12 @@ class Names(unittest.TestCase):
             for name, text in SPECS.items():
                 Path(folder, name).write_text(text, "utf-8")
             self.assertEqual(defined(Path(folder)), {"turn", "Edge", "Way", "Turn.entry", "Edges.entry"})
+
+    def test_a_type_without_parameters_needs_no_law(self) -> None:
+        with tempfile.TemporaryDirectory() as folder:
+            for name, text in SPECS.items():
+                Path(folder, name).write_text(text, "utf-8")
+            self.assertEqual(types(Path(folder)), {"Edge"})
 
     def test_laws_take_and_give_nothing(self) -> None:
         with tempfile.TemporaryDirectory() as folder:
