@@ -1,7 +1,7 @@
 -- Where no revoke of a side's is under way, and none of what something of the side's was derived from, nothing that is given within the side is busy.
-use Rattle.std.proofs.Common.{arith, ◌≡◌, ℕ, zero, suc, ◌==◌, List, [], ◌∷◌, length, refl, sym, ap, ◌∙◌, subst, inl, inr}
-use Rattle.std.specs.Prelude.{true, false, ◌&&◌, ◌||◌, ◌⊎◌, Contains, Option, Some, None, option_map}
-use Rattle.std.specs.List.{cons_option, filter_map, range_with_len}
+use Rattle.std.proofs.Common.{arith, ◌≡◌, ℕ, zero, suc, ◌==◌, List, length, refl, sym, ap, ◌∙◌, subst, inl, inr}
+use Rattle.std.specs.Prelude.{true, false, ◌&&◌, ◌||◌, ◌⊎◌, Contains, Option, Some, None}
+use Rattle.std.specs.List.{range_with_len}
 use Rattle.std.proofs.lemmas.Bool.{and_parts, eqb-true, false_from_ne_true, or_cases}
 use Rattle.nova_range.specs.Ranges.{is_inside, overlaps}
 use Rattle.nova_model.specs.Delegations.{Delegations, is_same_kind, parent_of, range_of}
@@ -18,6 +18,7 @@ use Rattle.law_forest.proofs.Members.{IsIn, contains_from_in}
 use Rattle.law_forest.proofs.Running.{revoking_there}
 use Rattle.law_forest.proofs.Scopes.{parent_found}
 use Rattle.law_forest.proofs.Transfers.{kinds_equal}
+use Rattle.law_turns.proofs.Leaving.{picked_from, runs_it}
 use Rattle.law_flow.specs.Flow.{IsUnrevoked}
 
 -- LINES
@@ -67,22 +68,6 @@ out_of_scope f forest r d there none = false_from_ne_true (in_scope r f.list d) 
 
     by_member : (a : Derivation) × IsIn (line f.list d) a × (is_top r f.list a ≡ true) → ⊥
     by_member m = by_case m.0 m.1 (or_cases (is_made_of r m.0 (parent_of f.list m.0)) (is_own r m.0) m.2)
-
--- WHO REVOKES
-
-picked_from : (h : ℕ → Option Running) (xs : List ℕ) (w : Running) → IsIn (filter_map h xs) w → (e : ℕ) × (h e ≡ Some w)
-picked_from h [] w i = absurd i
-picked_from h (x ∷ xs) w i = by_first (λ j. picked_from h xs w j) (h x) refl i
-  where
-    by_first : (IsIn (filter_map h xs) w → (e : ℕ) × (h e ≡ Some w)) → (o : Option Running) → h x ≡ o → IsIn (cons_option o (filter_map h xs)) w →
-        (e : ℕ) × (h e ≡ Some w)
-    by_first rest None is j = rest j
-    by_first rest (Some y) is (inl same) = (x, is ∙ ap (λ (v : Running). Some v) same)
-    by_first rest (Some y) is (inr j) = rest j
-
-runs_it : (e : ℕ) (o : Option Revocation) (w : Running) → running_of e o ≡ Some w → o ≡ Some w.revoke
-runs_it e None w h = absurd (cc)
-runs_it e (Some r) w h = ap (option_map (λ (v : Running). v.revoke)) h
 
 -- NOTHING IS BUSY
 

@@ -77,7 +77,7 @@ same_copied [] (l ∷ ls) f same = absurd same
 same_copied (m ∷ ms) [] f same = absurd same
 same_copied (m ∷ ms) (l ∷ ls) f same = grind (arith, same.0, same_copied ms ls f same.1)
 
-none_copied : (o : Option (List ℕ)) → is_some o ≡ false → o ≡ None
+pub none_copied : (o : Option (List ℕ)) → is_some o ≡ false → o ≡ None
 none_copied None h = refl
 none_copied (Some b) h = absurd (cc)
 

@@ -72,7 +72,7 @@ stamp_still n q stamp b more = ap (λ (t : Bool). (budget_used t n q stamp b).st
   unused : (n left : ℕ) → n < left → (nat_lt 0 n && nat_le left n) ≡ false
   unused n left more = grind arith
 
-charged_choice : (k m : KernelState) (cpu n : ℕ) (c : Candidate) (b : Budget) → IsRideable k cpu c b → IsRidden k m c.actor → n < b.left → choice (charged_at_once m cpu c.sc b n) cpu ≡ Some c
+pub charged_choice : (k m : KernelState) (cpu n : ℕ) (c : Candidate) (b : Budget) → IsRideable k cpu c b → IsRidden k m c.actor → n < b.left → choice (charged_at_once m cpu c.sc b n) cpu ≡ Some c
 charged_choice k m cpu n c b may is more =
     choice_same k (charged_at_once m cpu c.sc b n) cpu (record {
       objects = ap (λ (s : KernelState). s.objects) is.rest;
@@ -97,7 +97,7 @@ early_later t cpu n there early =
     by_next None far = tt
     by_next (Some e) far = let now = index_itself t.clocks cpu (slice_index t.clocks cpu + n) there in omega (arith, now, far)
 
-charged_calm : (k m : KernelState) (cpu n : ℕ) (c : Candidate) (b : Budget) → IsRideable k cpu c b → IsRidden k m c.actor → IsEarly k.times cpu (suc n) → due_on (charged_at_once m cpu c.sc b n).times cpu ≡ None
+pub charged_calm : (k m : KernelState) (cpu n : ℕ) (c : Candidate) (b : Budget) → IsRideable k cpu c b → IsRidden k m c.actor → IsEarly k.times cpu (suc n) → due_on (charged_at_once m cpu c.sc b n).times cpu ≡ None
 charged_calm k m cpu n c b may is early =
     subst (λ (t : Times). due_on (record t { clocks = slice_set t.clocks cpu (slice_index t.clocks cpu + n) }) cpu ≡ None) (sym (ap (λ (s : KernelState). s.times) is.rest))
     (early_calm (record k.times { clocks = slice_set k.times.clocks cpu (slice_index k.times.clocks cpu + n) }) cpu 0 (early_later k.times cpu n may.clock early))

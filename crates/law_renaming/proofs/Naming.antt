@@ -4,7 +4,7 @@ use Rattle.std.specs.Prelude.{Bool, true, false, ◌||◌, ◌==◌, Option, Som
 use Rattle.std.specs.List.{All}
 use Rattle.std.proofs.lemmas.Bool.{and_parts, eqb-true}
 use Rattle.std.proofs.lemmas.List.{append_assoc}
-use Rattle.std.proofs.lemmas.List.Elements.{All-tail}
+use Rattle.std.proofs.lemmas.List.Elements.{All-tail, All-head}
 use Rattle.nova_guest.specs.Alone.{applied}
 use Rattle.nova_guest.specs.Maps.{is_covered, leads_to}
 use Rattle.nova_guest.specs.declared.guest.Guest.{Guest}
@@ -25,7 +25,7 @@ use Rattle.law_renaming.specs.Renamings.{InputFits, GuestsAgree, InputAgrees, In
 use Rattle.law_renaming.specs.Verdicts.{IsAgreement}
 use Rattle.law_renaming.proofs.Forcing.{AreIn, both_in, in_paired, left_in, maps_alike, maps_forced, maps_made, none_in, or_left, or_parts, or_right, paired_in, right_in}
 use Rattle.law_renaming.proofs.Passing.{input_passes}
-use Rattle.law_renaming.proofs.Runs.{first_is, inputs_fit}
+use Rattle.law_renaming.proofs.Runs.{inputs_fit}
 use Rattle.law_renaming.proofs.Steps.{apply_agrees}
 
 -- STORES OF OTHERS are to frames that the guest's maps lead to
@@ -177,7 +177,7 @@ inputs_met r u v (i ∷ is) (j ∷ js) xs one guests same fit covered part maps 
     let ys : List (ℕ × ℕ) = xs ++ given_pairs i j in
     let more : AreIn r ys = both_in r xs (given_pairs i j) part (given_in r i j same.0) in
     let wider : MapsAgree (among ys) u.maps v.maps = more_maps (among xs) (among ys) u.maps v.maps (left_in (among ys) xs (given_pairs i j) (all_in ys)) maps in
-    let fits : InputFits i = first_is InputFits i is fit in
+    let fits : InputFits i = All-head InputFits i is fit in
     let whole = apply_agrees r one u v guests i j fits same.0 in
     let next = apply_agrees (among ys) (part_one r (among ys) one more) u v (part_guests r (among ys) u v guests more wider) i j fits (named_agrees r u v i j xs one same.0 covered.0 part maps) in
     input_met r u v i j xs (inputs_pairs is js) one same.0 covered.0 part maps

@@ -3,7 +3,7 @@ use Rattle.std.proofs.Common.{◌≡◌, ℕ, ◌*◌, ◌/◌, ◌^◌, ◌≤�
 use Rattle.std.specs.Prelude.{Bool, Option, Some, None, IfSome}
 use Rattle.std.specs.List.{All, concat}
 use Rattle.std.proofs.lemmas.List.{length-take}
-use Rattle.std.proofs.lemmas.List.Elements.{All-cons, All-nil, All-tail}
+use Rattle.std.proofs.lemmas.List.Elements.{All-cons, All-nil, All-tail, All-head}
 use Rattle.nova_guest.specs.Alone.{alone, applied, out_before, outputs}
 use Rattle.nova_guest.specs.Cells.{page_size}
 use Rattle.nova_guest.specs.Conditions.{IsInput}
@@ -26,9 +26,6 @@ use Rattle.law_renaming.proofs.Steps.{PutsAgree, apply_agrees}
 
 -- THE GUEST ALONE
 
-pub first_is : {T : Type 0} (P : T → Type 0) (x : T) (xs : List T) → All P (x ∷ xs) → P x
-first_is P x xs all = all 0 x (omega arith)
-
 puts_before : (r : ℕ → ℕ → Bool) (o p : Option Out) (os ps : List Out) → PutsAgree r o p → OutsAgree r os ps → OutsAgree r (out_before o os) (out_before p ps)
 puts_before r None None os ps first rest = rest
 puts_before r None (Some p) os ps first rest = absurd first
@@ -44,7 +41,7 @@ alone_agrees r one u v same [] [] fit h = record { guests = same; outs = tt }
 alone_agrees r one u v same [] (j ∷ js) fit h = absurd h
 alone_agrees r one u v same (i ∷ is) [] fit h = absurd h
 alone_agrees r one u v same (i ∷ is) (j ∷ js) fit h =
-    let once = apply_agrees r one u v same i j (first_is InputFits i is fit) h.0 in
+    let once = apply_agrees r one u v same i j (All-head InputFits i is fit) h.0 in
     let rest = alone_agrees r one (applied u i).guest (applied v j).guest once.guest is js (All-tail InputFits i is fit) h.1 in record {
       guests = rest.guests;
       outs = puts_before r (applied u i).out (applied v j).out (outputs (applied u i).guest is) (outputs (applied v j).guest js) once.out rest.outs;

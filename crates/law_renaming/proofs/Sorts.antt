@@ -3,7 +3,7 @@ use Rattle.std.proofs.Common.{◌≡◌, ℕ, zero, suc, ◌+◌, ◌*◌, ◌^�
 use Rattle.std.specs.Prelude.{Bool, true, nat_lt, slice_get, is_some, IfSome}
 use Rattle.std.specs.List.{All, concat}
 use Rattle.std.proofs.lemmas.List.{length-drop, length-take}
-use Rattle.std.proofs.lemmas.List.Elements.{All-nil, All-tail, All-take}
+use Rattle.std.proofs.lemmas.List.Elements.{All-nil, All-tail, All-take, All-head}
 use Rattle.std.proofs.lemmas.Nat.{pow_pos}
 use Rattle.nova_guest.specs.Cells.{page_size}
 use Rattle.nova_guest.specs.Maps.{is_covered, leads_to}
@@ -28,7 +28,7 @@ use Rattle.law_renaming.specs.Verdicts.{IsAgreement}
 use Rattle.law_renaming.proofs.Comparing.{agree_found, agree_made}
 use Rattle.law_renaming.proofs.Forcing.{AreIn, both_in, flags_same, flags_self, none_in, or_left, or_right, paired_in}
 use Rattle.law_renaming.proofs.Passing.{input_passes}
-use Rattle.law_renaming.proofs.Runs.{first_is, front_each}
+use Rattle.law_renaming.proofs.Runs.{front_each}
 
 -- INPUTS: the frames of a map that comes are RAM just where it comes with bytes, and another stores to RAM
 abbrev IsSorted : ℕ → Input → Type 0
@@ -106,7 +106,7 @@ inputs_sorted r m n [] [] same first second = none_in (sorted m n)
 inputs_sorted r m n [] (j ∷ js) same first second = absurd same
 inputs_sorted r m n (i ∷ is) [] same first second = absurd same
 inputs_sorted r m n (i ∷ is) (j ∷ js) same first second =
-    both_in (sorted m n) (input_pairs i j) (inputs_pairs is js) (input_sorted r m n i j same.0 (first_is (IsSorted m) i is first) (first_is (IsSorted n) j js second))
+    both_in (sorted m n) (input_pairs i j) (inputs_pairs is js) (input_sorted r m n i j same.0 (All-head (IsSorted m) i is first) (All-head (IsSorted n) j js second))
     (inputs_sorted r m n is js same.1 (All-tail (IsSorted m) i is first) (All-tail (IsSorted n) j js second))
 
 leads : (m : Map) (i : ℕ) → i < 2 ^ m.order → leads_to (m.frame + i) m ≡ true

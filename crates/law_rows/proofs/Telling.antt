@@ -7,11 +7,9 @@ use Rattle.nova_range.specs.declared.mtd.Mtd.{Mtd}
 use Rattle.nova_range.specs.declared.mtd.TheConstants.Mtd.{QUAL, PC, LOW, HIGH}
 use Rattle.nova_utcb.specs.Messages.{IsMessage, copied, exit_word, exited, is_given, word}
 use Rattle.nova_utcb.proofs.Ruled.{get_kept, get_ruled}
+use Rattle.nova_utcb.proofs.CopyLaws.{rule}
 
 -- COPIES
-
-abbrev rule : List ℕ → ℕ → ℕ → ℕ
-rule from i stays = if is_given from i then word from i else stays
 
 copied_at : (from to : List ℕ) (i : ℕ) → IsMessage to → i < 128 → word (copied from to) i ≡ rule from i (word to i)
 unfolding copied

@@ -9,12 +9,10 @@ use Rattle.nova_range.specs.declared.mtd.TheConstants.Mtd.{PC, LOW, HIGH}
 use Rattle.nova_utcb.specs.Messages.{copied, groups_in, is_given, register_back, renewed, word, written_back}
 use Rattle.nova_utcb.proofs.Ruled.{get_ruled, is_ruled, length_ruled, ruled_alike}
 use Rattle.nova_model.specs.State.{no_words}
+use Rattle.nova_utcb.proofs.CopyLaws.{rule}
 use Rattle.law_service.specs.Service.{is_returned, returned}
 
 -- A COPY
-
-abbrev rule : List ℕ → ℕ → ℕ → ℕ
-rule from i stays = if is_given from i then word from i else stays
 
 given_at : (from to : List ℕ) (i : ℕ) → i < length to → is_given from i ≡ true → word (copied from to) i ≡ word from i
 unfolding copied

@@ -19,3 +19,4 @@ pub mod Shared
 pub mod Stuck
 pub mod Untouched
 pub mod Words
+pub mod Ranges

@@ -34,7 +34,7 @@ same_domain : (k : KernelState) (n : ℕ) (m : IsEc k n) → pd_of k n ≡ m.dom
 same_domain k n m = ap pd_in m.object
 
 -- a capability of an object, and a capability that leads to a domain
-obj_not : (kind : Kind) → kind ≡ Obj → not (is_memory kind) ≡ true
+pub obj_not : (kind : Kind) → kind ≡ Obj → not (is_memory kind) ≡ true
 obj_not Mem is = absurd (cc)
 obj_not Obj is = refl
 

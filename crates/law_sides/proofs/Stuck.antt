@@ -4,8 +4,6 @@ use Rattle.std.specs.Prelude.{◌==◌, ◌&&◌, ◌-◌, Bool, true, false, ma
 use Rattle.std.proofs.lemmas.Bool.{and_parts, eq-eqb}
 use Rattle.std.proofs.lemmas.Option.{same_Some, slice_get-map}
 use Rattle.nova_range.specs.Rights.{allows}
-use Rattle.nova_range.specs.declared.range.Kind.{Kind}
-use Rattle.nova_range.specs.declared.range.Kind.TheVariants.{Mem, Obj}
 use Rattle.nova_model.specs.Capabilities.{up_right}
 use Rattle.nova_model.specs.Delegations.{is_memory}
 use Rattle.nova_model.specs.State.{KernelState, context_at, context_in, deadline_of}
@@ -22,6 +20,7 @@ use Rattle.law_turns.proofs.Moments.{has_entries, no_entry}
 use Rattle.law_turns.proofs.TablesFit.{TablesFit}
 use Rattle.law_integrity.specs.Confined.{Holds, IsClosed, IsIdle, IsStuck}
 use Rattle.law_integrity.proofs.Labels.{blocked_object}
+use Rattle.law_sides.proofs.Roles.{obj_not}
 use Rattle.law_sides.specs.Resting.{is_nothing, is_resting, is_resting_in, is_unraised, is_unrung, raises, waits_for_good}
 use Rattle.law_sides.proofs.Lists.{at_of_all, of_one}
 
@@ -31,10 +30,6 @@ not_both false is none = absurd (cc)
 
 both_true : (a b : Bool) → a ≡ true → b ≡ true → (a && b) ≡ true
 both_true a b is also = rw (is, also) refl
-
-obj_not : (kind : Kind) → kind ≡ Obj → not (is_memory kind) ≡ true
-obj_not Mem is = absurd (cc)
-obj_not Obj is = refl
 
 -- of all that a set may hold to raise a semaphore, it is in the hands of a context that acts
 abbrev pub RaisesByActing : KernelState → (ℕ → Bool) → (ℕ → Type 0) → Type 0

@@ -176,7 +176,7 @@ held_by list x held =
     let b = and_parts (d.pd == x.pd) (overlaps (range_of d) (range_of x)) a.1 in
     (d, contains_from_in list d some.1, eqb-true d.pd x.pd b.0, same_kind x.kind d.kind a.0, (meetings.shared (range_of d) (range_of x)).0 b.1)
 
-picked_from : (h : ℕ → Option Running) (xs : List ℕ) (w : Running) → IsIn (filter_map h xs) w → (e : ℕ) × (h e ≡ Some w)
+pub picked_from : (h : ℕ → Option Running) (xs : List ℕ) (w : Running) → IsIn (filter_map h xs) w → (e : ℕ) × (h e ≡ Some w)
 picked_from h [] w i = absurd i
 picked_from h (x ∷ xs) w i = by_first (λ j. picked_from h xs w j) (h x) refl i
   where
@@ -186,7 +186,7 @@ picked_from h (x ∷ xs) w i = by_first (λ j. picked_from h xs w j) (h x) refl 
     by_first rest (Some y) is (inl same) = (x, is ∙ ap (λ (v : Running). Some v) same)
     by_first rest (Some y) is (inr j) = rest j
 
-runs_it : (e : ℕ) (o : Option Revocation) (w : Running) → running_of e o ≡ Some w → o ≡ Some w.revoke
+pub runs_it : (e : ℕ) (o : Option Revocation) (w : Running) → running_of e o ≡ Some w → o ≡ Some w.revoke
 runs_it e None w h = absurd (cc)
 runs_it e (Some r) w h = ap (option_map (λ (v : Running). v.revoke)) h
 

@@ -1,10 +1,11 @@
 -- What comes within some turns of a state.
 use Rattle.std.proofs.Common.{◌≡◌, ◌⊎◌, ◌∙◌, ℕ, zero, suc, ◌+◌, ◌<◌, ◌≤◌, List, [], ◌∷◌, length, refl, ap, arith, inl, inr}
-use Rattle.std.specs.Prelude.{Bool, true, false, ◌||◌, nat_eq}
+use Rattle.std.specs.Prelude.{Bool, true, false, ◌||◌}
 use Rattle.std.specs.List.{list_any, range_with_len}
 use Rattle.nova_model.specs.Runs.{after, run}
 use Rattle.nova_model.specs.State.{KernelState}
 use Rattle.nova_search.specs.Searches.{AreProcessors}
+use Rattle.std.proofs.lemmas.Bool.{cases_eq}
 use Rattle.nova_asking.specs.Hangs.{comes_within}
 
 neither : (a b : Bool) → a ≡ false → b ≡ false → a || b ≡ false
@@ -24,15 +25,8 @@ any_false p from zero none = refl
 any_false p from (suc count) none =
     neither (p from) (list_any p (range_with_len (from + 1) count)) (none from (omega arith)) (any_false p (from + 1) count (λ n less. none n (omega (arith, less))))
 
-pub same_or_not : (i j : ℕ) → (i ≡ j) ⊎ (i ≡ j → ⊥)
-same_or_not i j = by_test (nat_eq i j) refl
-  where
-    by_test : (t : Bool) → nat_eq i j ≡ t → (i ≡ j) ⊎ (i ≡ j → ⊥)
-    by_test true is = inl (grind (arith, is))
-    by_test false is = inr (λ same. grind (arith, is, same))
-
 first_or_more : (p : ℕ → Bool) (from n : ℕ) (more : Bool) → p from || more ≡ false → from ≤ n → (from + 1 ≤ n → p n ≡ false) → p n ≡ false
-first_or_more p from n more none least rest = by_case (same_or_not n from)
+first_or_more p from n more none least rest = by_case (cases_eq n from)
   where
     by_case : (n ≡ from) ⊎ (n ≡ from → ⊥) → p n ≡ false
     by_case (inl same) = ap p same ∙ first_not (p from) more none

@@ -8,11 +8,11 @@ use Rattle.nova_model.specs.Choice.{is_quiet}
 use Rattle.nova_model.specs.State.{KernelState}
 use Rattle.nova_search.specs.Searches.{state_at}
 use Rattle.nova_search.specs.declared.found.Found.{Found}
+use Rattle.nova_compare.proofs.Places.{place}
 use Rattle.nova_asking.specs.Answers.{AreDistinct, EndsSo, IsEnd, outcomes}
 use Rattle.nova_asking.specs.Searched.{HaveOutcomes, HaveSoFar, IsPlaceOf, KeepEnds, LeadThere}
 use Rattle.nova_asking.specs.Outcomes.{outcome}
 use Rattle.nova_asking.specs.declared.ends.End.{End}
-use Rattle.nova_asking.proofs.Found.{place}
 
 abbrev pub outcome_of : End → List ℕ
 outcome_of e = e.outcome.items

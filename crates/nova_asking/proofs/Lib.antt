@@ -1,7 +1,6 @@
 pub mod Equal
 pub mod Ranges
 pub mod Orders
-pub mod Found
 pub mod Told
 pub mod Answered
 pub mod Ended

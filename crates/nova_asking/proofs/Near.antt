@@ -6,7 +6,7 @@ use Rattle.nova_model.specs.State.{KernelState}
 use Rattle.nova_search.specs.declared.edges.Edge.{Edge}
 use Rattle.nova_search.specs.Edges.{AreAhead, AreEdges, IsEdge}
 use Rattle.nova_search.proofs.Links.{way_before}
-use Rattle.nova_asking.proofs.Coming.{same_or_not}
+use Rattle.std.proofs.lemmas.Bool.{cases_eq}
 use Rattle.nova_asking.specs.Least.{AreLeast, ComesAt, is_within, least_at, nearer, passed_on, turns_if}
 
 set_long : (l : List (Option ℕ)) (i : ℕ) (v : Option ℕ) → length (slice_set l i v) ≡ length l
@@ -141,7 +141,7 @@ module _ (test : KernelState → Bool) where
     others i not = set_other least e.from i (nearer (least_at least e.from) (least_at least e.to)) not
 
     here_or_behind : (i : ℕ) → place ≤ i → (i ≡ place) ⊎ (place + 1 ≤ i)
-    here_or_behind i from = by_case (same_or_not i place)
+    here_or_behind i from = by_case (cases_eq i place)
       where
         by_case : (i ≡ place) ⊎ (i ≡ place → ⊥) → (i ≡ place) ⊎ (place + 1 ≤ i)
         by_case (inl same) = inl same
@@ -149,7 +149,7 @@ module _ (test : KernelState → Bool) where
 
     -- nothing gets more
     kept : (i most : ℕ) → is_within (least_at least i) most ≡ true → is_within (least_at passed_least i) most ≡ true
-    kept i most within = by_case (same_or_not i e.from)
+    kept i most within = by_case (cases_eq i e.from)
       where
         by_case : (i ≡ e.from) ⊎ (i ≡ e.from → ⊥) → is_within (least_at passed_least i) most ≡ true
         by_case (inl same) =
@@ -159,7 +159,7 @@ module _ (test : KernelState → Bool) where
         by_case (inr not) = subst (λ (o : Option ℕ). is_within o most ≡ true) (sym (others i not)) within
 
     come : (i turns : ℕ) (d : KernelState) → i < length states → least_at passed_least i ≡ Some turns → ComesAt test (slice_index_or states i d) turns
-    come i turns d few noted = by_case (same_or_not i e.from)
+    come i turns d few noted = by_case (cases_eq i e.from)
       where
         by_either : i ≡ e.from → (least_at least e.from ≡ Some turns) ⊎ (least_at least e.to ≡ Some turns) → ComesAt test (slice_index_or states i d) turns
         by_either same (inl old) = so_far.come i turns d few (ap (λ (n : ℕ). least_at least n) same ∙ old)

@@ -1,25 +1,15 @@
 -- Which instructions processors are about to execute.
-use Rattle.std.specs.Prelude.{ℕ, ◌==◌, ◌&&◌, Bool, true, false, not, Option, Some, None, is_some, option_map, slice_get}
+use Rattle.std.specs.Prelude.{ℕ, ◌==◌, ◌&&◌, Bool, false, not, Option, Some, None, option_map, slice_get}
 use Rattle.std.specs.List.{list_any, range_with_len}
 use Rattle.nova_model.specs.Choice.{Candidate, next_to_act}
 use Rattle.nova_model.specs.State.{KernelState, context_at}
-use Rattle.nova_model.specs.Times.{due_on}
 use Rattle.nova_model.specs.declared.context.EcState.{EcState}
-use Rattle.nova_model.specs.declared.context.State.{State}
-use Rattle.nova_model.specs.declared.context.State.TheVariants.{Ready}
 use Rattle.nova_objects.specs.declared.object.Object.{Object}
 use Rattle.nova_objects.specs.declared.object.Object.TheVariants.{Ec}
+use Rattle.nova_deeds.specs.Acts.{is_executing}
 use Rattle.nova_asking.specs.declared.question.Location.{Location}
 
-abbrev pub is_ready : State → Bool
-is_ready Ready = true
-is_ready other = false
-
--- an execution context is about to execute an instruction: it is ready, and no recall is asked for
-abbrev pub is_executing : EcState → Bool
-is_executing x = is_ready x.state && not x.recall
-
--- that at an address
+-- an execution context is about to execute the instruction at an address
 abbrev pub is_going : EcState → ℕ → Bool
 is_going x address = is_executing x && (x.regs.pc == address)
 
@@ -41,10 +31,6 @@ is_there k location ec = is_there_by k location ec (context_at k ec)
 abbrev pub is_at_by : KernelState → Location → Option ℕ → Bool
 is_at_by k location (Some ec) = is_there k location ec
 is_at_by k location None = false
-
--- something is due on a processor
-abbrev pub is_due : KernelState → ℕ → Bool
-is_due k cpu = is_some (due_on k.times cpu)
 
 -- the execution context that acts in a processor's next turn; nobody does where something is due first
 abbrev pub next_actor : KernelState → ℕ → Option ℕ

@@ -6,7 +6,8 @@ use Rattle.nova_model.specs.declared.context.EcState.{EcState}
 use Rattle.nova_recording.specs.Accesses.{accessed}
 use Rattle.nova_recording.specs.Watches.{is_seen_in}
 use Rattle.nova_recording.specs.declared.watches.Watch.{Watch}
-use Rattle.nova_asking.specs.Locations.{is_executing, next_actor}
+use Rattle.nova_deeds.specs.Acts.{is_executing}
+use Rattle.nova_asking.specs.Locations.{next_actor}
 
 -- stores are looked for, to the bytes of a frame from one to another
 abbrev pub stores_to : ℕ → ℕ → ℕ → Watch

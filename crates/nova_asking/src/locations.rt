@@ -1,5 +1,8 @@
-ghost use Rattle.std.specs.Prelude.{◌≡◌};
-ghost use Rattle.nova_asking.specs.Locations.{another_is_at, is_at, is_due, is_executing, is_going, is_in, is_ready, is_there, next_actor, some_is_at, two_are_at};
+ghost use Rattle.std.specs.Prelude.{◌≡◌, is_some};
+ghost use Rattle.nova_choice.specs.Schedules.{is_ready};
+ghost use Rattle.nova_deeds.specs.Acts.{is_executing};
+ghost use Rattle.nova_model.specs.Times.{due_on};
+ghost use Rattle.nova_asking.specs.Locations.{another_is_at, is_at, is_going, is_in, is_there, next_actor, some_is_at, two_are_at};
 
 use crate::question::Location;
 use nova_kernel::{EcState, Kernel, Object, State};
@@ -48,7 +51,7 @@ fn is_there(kernel: &Kernel, ec: u32, location: Location) -> bool
 /// Whether something is due on a processor.
 #[tactic(auto, using(crate::proofs::Due::due_when, crate::proofs::Due::never_due))]
 fn is_due(kernel: &Kernel, cpu: u32) -> bool
-    ensures { result ≡ is_due kernel.now.state cpu }
+    ensures { result ≡ is_some (due_on kernel.now.state.times cpu) }
 {
     match kernel.until_due(cpu) {
         Some(left) => left == 0,

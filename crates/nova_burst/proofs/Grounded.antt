@@ -1,12 +1,11 @@
 -- What was read on copies, and stays through a store elsewhere.
-use Rattle.std.proofs.Common.{inl, inr, ◌≡◌, ◌≢◌, ◌⊎◌, ◌<◌, ◌≤◌, ℕ, zero, suc, ◌+◌, ◌/◌, ◌%◌, List, [], ◌∷◌, length, drop, get_or, replicate, ap, sym, ◌∙◌, subst, refl, arith}
+use Rattle.std.proofs.Common.{inl, inr, ◌≡◌, ◌≢◌, ◌⊎◌, ◌≤◌, ℕ, zero, suc, ◌+◌, ◌/◌, ◌%◌, List, [], ◌∷◌, length, replicate, ap, sym, ◌∙◌, subst, refl, arith}
 use Rattle.std.specs.Prelude.{Bool, true, false, ◌==◌, Option, Some, None, option_and_then, option_map, slice_get, slice_set, if◌then◌else◌}
 use Rattle.std.specs.List.{All}
 use Rattle.std.proofs.lemmas.Bool.{cases_eq}
-use Rattle.std.proofs.lemmas.List.{get_or-drop, places}
 use Rattle.std.proofs.lemmas.List.Elements.{All-head, All-tail}
 use Rattle.std.proofs.lemmas.Option.{same_Some}
-use Rattle.byteorder.specs.Endian.{little_bytes, little_from, little_number}
+use Rattle.byteorder.specs.Endian.{little_bytes}
 use Rattle.byteorder.specs.Numbers.{length-bytes_low_first}
 use Rattle.rv_model.specs.Codes.{instr_of}
 use Rattle.rv_model.specs.Registers.{Registers}
@@ -18,22 +17,14 @@ use Rattle.nova_range.specs.Rights.{execute_right}
 use Rattle.law_leases.proofs.Leased.{copy_stored}
 use Rattle.law_leases.specs.Leases.{copied_space, copy_at, lease_by, lease_step, read_copy, stored_in_pages}
 use Rattle.law_leases.specs.declared.steps.Page.{Page}
+use Rattle.nova_frames.proofs.Replaced.{little_number-replaced_other}
+use Rattle.nova_memory.proofs.Remembered.{apart_of, set_or}
 use Rattle.nova_burst.specs.Copies.{CopiesState, fetched, known_in, lease_of}
 use Rattle.nova_burst.specs.Grounds.{AreLeft, AreRead, IsRead, IsUnread}
 use Rattle.nova_burst.specs.declared.ground.Slot.{Slot}
 use Rattle.nova_burst.proofs.Places.{whole_kept}
 
 -- WHAT IS REMEMBERED
-
-set_or : (xs : List Slot) (n : ℕ) (v : Slot) (i : ℕ) (x : Slot) → slice_get (slice_set xs n v) i ≡ Some x → ((i ≡ n) × (v ≡ x)) ⊎ (slice_get xs i ≡ Some x)
-set_or [] n v i x h = absurd (cc)
-set_or (y ∷ xs) zero v zero x h = inl (refl, same_Some v x h)
-set_or (y ∷ xs) zero v (suc i) x h = inr h
-set_or (y ∷ xs) (suc n) v zero x h = inr h
-set_or (y ∷ xs) (suc n) v (suc i) x h = elim (set_or xs n v i x h) [
-  | inl here ↦ inl (ap suc here.0, here.1)
-  | inr other ↦ inr other
-]
 
 -- a reading is put at its place
 pub learned : (s : CopiesState) (slots : List Slot) (n : ℕ) (v : Slot) → AreRead s slots → (v.address / 4 % 256 ≡ n → IsRead s v) → AreRead s (slice_set slots n v)
@@ -84,44 +75,6 @@ none_placed n x v zeroth first i y at place = elim (set_or (replicate n x) 0 v i
 
 -- A STORE ELSEWHERE
 
--- a number goes by its bytes alone
-from_same : (n i : ℕ) (xs ys : List ℕ) → ((k : ℕ) → i ≤ k → k < i + n → get_or xs k 0 ≡ get_or ys k 0) → little_from i n xs ≡ little_from i n ys
-from_same zero i xs ys h = refl
-from_same (suc n) i xs ys h =
-    let byte = h i (omega arith) (omega arith) in
-    let rest = from_same n (suc i) xs ys (λ k low high. h k (omega arith) (omega arith)) in
-    rw (byte, rest) refl
-
-byte_apart : (bytes new : List ℕ) (offset k : ℕ) → offset + length new ≤ length bytes → (k < offset) ⊎ (offset + length new ≤ k) → get_or (replaced bytes offset new) k 0 ≡ get_or bytes k 0
-byte_apart bytes new offset k h apart = grind (arith, places)
-
-number_apart : (bytes new : List ℕ) (offset o width : ℕ) → offset + length new ≤ length bytes → (o + width ≤ offset) ⊎ (offset + length new ≤ o)
-    → little_number width (drop o (replaced bytes offset new)) ≡ little_number width (drop o bytes)
-number_apart bytes new offset o width h apart =
-    from_same width 0 (drop o (replaced bytes offset new)) (drop o bytes)
-    (λ k low high. rw (get_or-drop o (replaced bytes offset new) k 0, get_or-drop o bytes k 0)
-    (byte_apart bytes new offset (o + k) h
-    (elim apart [ inl before ↦ inl (omega arith) | inr after ↦ inr (omega arith) ])))
-
-apart_one : (a b : ℕ) → a % 4 ≡ 0 → a / 4 ≢ b / 4 → (a + 4 ≤ b) ⊎ (b + 1 ≤ a)
-apart_one a b h ne = grind arith
-
-apart_two : (a b : ℕ) → a % 4 ≡ 0 → b % 2 ≡ 0 → a / 4 ≢ b / 4 → (a + 4 ≤ b) ⊎ (b + 2 ≤ a)
-apart_two a b h g ne = grind arith
-
-apart_four : (a b : ℕ) → a % 4 ≡ 0 → b % 4 ≡ 0 → a / 4 ≢ b / 4 → (a + 4 ≤ b) ⊎ (b + 4 ≤ a)
-apart_four a b h g ne = grind arith
-
--- words of other places lie apart
-apart_of : (a b w : ℕ) → a % 4 ≡ 0 → IsStore b w → a / 4 ≢ b / 4 → (a + 4 ≤ b) ⊎ (b + w ≤ a)
-apart_of a b w h place ne = elim place.size [
-  | inl one_byte ↦ subst (λ (n : ℕ). (a + 4 ≤ b) ⊎ (b + n ≤ a)) (sym one_byte) (apart_one a b h ne)
-  | inr more ↦ elim more [
-    | inl two ↦ subst (λ (n : ℕ). (a + 4 ≤ b) ⊎ (b + n ≤ a)) (sym two) (apart_two a b h (ap (λ (n : ℕ). b % n) (sym two) ∙ place.aligned) ne)
-    | inr four ↦ subst (λ (n : ℕ). (a + 4 ≤ b) ⊎ (b + n ≤ a)) (sym four) (apart_four a b h (ap (λ (n : ℕ). b % n) (sym four) ∙ place.aligned) ne)
-  ]
-]
-
 ends_within : (b w : ℕ) → IsStore b w → b + w ≤ 4096
 ends_within b w place = elim place.size [
   | inl one_byte ↦ (let h = place.within in omega (arith, one_byte, h))
@@ -148,11 +101,8 @@ is_store a w size aligned = record {
 place_in_page : (n : ℕ) → n % 4096 / 4 % 256 ≡ n / 4 % 256
 place_in_page n = omega arith
 
-aligned_in_page : (n : ℕ) → n % 4 ≡ 0 → n % 4096 % 4 ≡ 0
-aligned_in_page n h = omega arith
-
 apart_by_place : (x y w : ℕ) → x % 4 ≡ 0 → IsStore (y % 4096) w → x / 4 % 256 ≢ y / 4 % 256 → (x % 4096 + 4 ≤ y % 4096) ⊎ (y % 4096 + w ≤ x % 4096)
-apart_by_place x y w h place ne = apart_of (x % 4096) (y % 4096) w (aligned_in_page x h) place
+apart_by_place x y w h place ne = apart_of (x % 4096) (y % 4096) w (omega (arith, h)) place.size place.aligned
     (λ e. ne (sym (place_in_page x) ∙ (ap (λ (n : ℕ). n % 256) e ∙ place_in_page y)))
 
 word_apart : (bytes : List ℕ) (o w v a : ℕ) → IsStore o w → length bytes ≡ 4096 → (a + 4 ≤ o) ⊎ (o + w ≤ a) →
@@ -160,7 +110,7 @@ word_apart : (bytes : List ℕ) (o w v a : ℕ) → IsStore o w → length bytes
 word_apart bytes o w v a place whole apart =
     let count : length (little_bytes w v) ≡ w = length-bytes_low_first 0 w v in
     let ends = ends_within o w place in
-    number_apart bytes (little_bytes w v) o a 4 (omega (arith, count, ends, whole)) (elim apart [ inl before ↦ inl before | inr after ↦ inr (omega (arith, count, after)) ])
+    little_number-replaced_other bytes (little_bytes w v) o a 4 (omega (arith, count, ends, whole)) (elim apart [ inl before ↦ inl before | inr after ↦ inr (omega (arith, count, after)) ])
 
 whole_at : (pages : List Page) (f : ℕ) (b : List ℕ) → All (λ (p : Page). length p.bytes ≡ 4096) pages → copy_at pages f ≡ Some b → length b ≡ 4096
 whole_at [] f b all at = absurd (cc)

@@ -1,6 +1,6 @@
 -- Pages that are known and copies, with one more at the end.
 use Rattle.std.proofs.Common.{◌≡◌, ◌≢◌, ◌⊎◌, ◌≤◌, ◌<◌, ℕ, suc, ◌+◌, ◌++◌, List, [], ◌∷◌, length, inl, inr, ap, sym, ◌∙◌, subst, refl, arith}
-use Rattle.std.specs.Prelude.{Bool, true, false, ◌==◌, Option, Some, None, IsSome, is_some, option_map, slice_get, if◌then◌else◌}
+use Rattle.std.specs.Prelude.{Bool, true, false, ◌==◌, Option, Some, None, IsSome, option_map, slice_get, if◌then◌else◌}
 use Rattle.std.specs.List.{AllByRecursion, find}
 use Rattle.std.proofs.lemmas.Bool.{cases_eq}
 use Rattle.std.proofs.lemmas.Option.{same_Some}
@@ -51,10 +51,6 @@ known_or (k ∷ list) x page p h = by_test (k.page == page) h (known_or list x p
 pub some_of : (o : Option (List ℕ)) → IsSome o → (b : List ℕ) × (o ≡ Some b)
 some_of (Some b) h = (b, refl)
 some_of None h = absurd (cc)
-
-pub none_of : (o : Option (List ℕ)) → is_some o ≡ false → o ≡ None
-none_of None h = refl
-none_of (Some b) h = absurd (cc)
 
 pub copy_still : (pages : List Page) (x : Page) (f : ℕ) (b : List ℕ) → copy_at pages f ≡ Some b → copy_at (pages ++ x ∷ []) f ≡ Some b
 copy_still [] x f b h = absurd (cc)

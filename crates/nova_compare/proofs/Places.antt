@@ -5,7 +5,7 @@ use Rattle.std.specs.Bool.{OnTrue}
 use Rattle.std.specs.Cmp.Lexicographic.{pointwise, same_text}
 use Rattle.std.specs.Prelude.{nat_eq}
 
-place : (i n : ℕ) → i < n + 1 → (i < n) ⊎ (i ≡ n)
+pub place : (i n : ℕ) → i < n + 1 → (i < n) ⊎ (i ≡ n)
 place i n less = by_test (nat_lt i n) refl
   where
     by_test : (t : Bool) → nat_lt i n ≡ t → (i < n) ⊎ (i ≡ n)

@@ -33,7 +33,7 @@ itself other = refl
 -- A STORE
 
 -- a frame that is there
-frame_there : {T : Type 0} → (xs : List T) (n : ℕ) → nat_lt n (length xs) ≡ is_some (slice_get xs n)
+pub frame_there : {T : Type 0} → (xs : List T) (n : ℕ) → nat_lt n (length xs) ≡ is_some (slice_get xs n)
 frame_there [] n = grind arith
 frame_there (x ∷ xs) zero = grind arith
 frame_there (x ∷ xs) (suc n) = let e : nat_lt (suc n) (suc (length xs)) ≡ nat_lt n (length xs) = grind arith in e ∙ frame_there xs n

@@ -48,15 +48,11 @@ block_idle k l before block rest blocks line leads free idle whole number = reco
 }
 
 -- the block at a place of an order
-module _ (blocks : List Block) (n : ℕ) (d : Block) (less : n < length blocks) where
-  abbrev block_at : Block
-  block_at = slice_index_or blocks n d
-
-  pub line_idle : (k l : KernelState) (line : ℕ) → l ≡ run k (turns (take n blocks)) → IsFreeOfIdle k (turns (take n blocks)) →
-      (IsFreeOfIdle l (replicate block_at.count block_at.cpu) → ⊥) → line ≡ n + 1 → IsIdleLine k blocks line
-  line_idle k l line leads free idle number =
-      let len : length (take n blocks) ≡ n = omega (arith, length-take n blocks) in
-      block_idle k l (take n blocks) block_at (drop (n + 1) blocks) blocks line leads free idle (split_at blocks n d less) (omega (arith, len, number))
+pub line_idle : (blocks : List Block) (n : ℕ) (d : Block) → n < length blocks → (k l : KernelState) (line : ℕ) → l ≡ run k (turns (take n blocks)) → IsFreeOfIdle k (turns (take n blocks)) →
+    (IsFreeOfIdle l (replicate (slice_index_or blocks n d).count (slice_index_or blocks n d).cpu) → ⊥) → line ≡ n + 1 → IsIdleLine k blocks line
+line_idle blocks n d less k l line leads free idle number =
+    let len : length (take n blocks) ≡ n = omega (arith, less, length-take n blocks) in
+    block_idle k l (take n blocks) (slice_index_or blocks n d) (drop (n + 1) blocks) blocks line leads free idle (split_at blocks n d less) (omega (arith, len, number))
 
 -- where no turn is idle, no line has an idle one
 pub no_idle_line : (k : KernelState) (blocks : List Block) (line : ℕ) → IsFreeOfIdle k (turns blocks) → IsIdleLine k blocks line → ⊥

@@ -17,7 +17,8 @@ use Rattle.law_integrity.proofs.Labels.{context_ec}
 use Rattle.law_sides.specs.Resting.{is_nothing}
 use Rattle.law_sides.proofs.Lists.{numbered_at}
 use Rattle.std.proofs.lemmas.Bool.{and_parts, false_from_ne_true, not-true}
-use Rattle.nova_flowing.specs.Leaks.{alarms_of, leak_at, leak_by, leak_of}
+use Rattle.nova_kernel.specs.Begun.{sources_of}
+use Rattle.nova_flowing.specs.Leaks.{leak_at, leak_by, leak_of}
 use Rattle.nova_flowing.specs.Premises.{Holds, IsDecided, IsOf, IsWaiting, fails, first_failing, first_waiting, home_of, is_blocked, is_waiting, leak_of_premise, others_of, own_of, part_of, unless_failing, unless_waiting, verdict_of, waits_in}
 use Rattle.nova_flowing.specs.Tests.{blocked_at, is_in, is_of_neither, is_quiet}
 use Rattle.nova_flowing.specs.declared.deciding.Verdict.{Verdict}
@@ -45,7 +46,7 @@ module _ (k : KernelState) (v : Division) (of : IsOf k v) (sound : IsSound k) wh
   record AreNone (p : Premise) : Type 0 where
     by : AllByRecursion (λ (d : Derivation). leak_by k (own_of v) (others_of v) (part_of v) p d ≡ None) k.delegations.list
     at : AllByRecursion (λ (e : ℕ × Object). leak_at k (own_of v) (others_of v) (part_of v) (home_of v) p e ≡ None) (enumerate_from 0 k.objects)
-    of_alarms : AllByRecursion (λ (e : ℕ × Alarm). leak_of (part_of v) (home_of v) p e ≡ None) (enumerate_from 0 (alarms_of k))
+    of_alarms : AllByRecursion (λ (e : ℕ × Alarm). leak_of (part_of v) (home_of v) p e ≡ None) (enumerate_from 0 (sources_of k))
 
   all_none : (p : Premise) → leak_of_premise k v p ≡ None → AreNone p
   all_none p none =
@@ -53,14 +54,14 @@ module _ (k : KernelState) (v : Division) (of : IsOf k v) (sound : IsSound k) wh
       record {
         by = first_none (leak_by k (own_of v) (others_of v) (part_of v) p) k.delegations.list (none_left _ _ none);
         at = first_none (leak_at k (own_of v) (others_of v) (part_of v) (home_of v) p) (enumerate_from 0 k.objects) (none_left _ _ rest);
-        of_alarms = first_none (leak_of (part_of v) (home_of v) p) (enumerate_from 0 (alarms_of k)) (none_right _ _ rest);
+        of_alarms = first_none (leak_of (part_of v) (home_of v) p) (enumerate_from 0 (sources_of k)) (none_right _ _ rest);
       }
 
   none_all : (p : Premise) → AreNone p → leak_of_premise k v p ≡ None
   none_all p all =
       none_both _ _ (none_first (leak_by k (own_of v) (others_of v) (part_of v) p) k.delegations.list all.by)
       (none_both _ _ (none_first (leak_at k (own_of v) (others_of v) (part_of v) (home_of v) p) (enumerate_from 0 k.objects) all.at)
-      (none_first (leak_of (part_of v) (home_of v) p) (enumerate_from 0 (alarms_of k)) all.of_alarms))
+      (none_first (leak_of (part_of v) (home_of v) p) (enumerate_from 0 (sources_of k)) all.of_alarms))
 
   pub side_holds : leak_of_premise k v Side ≡ None → Holds k v Side
   side_holds none =
@@ -118,8 +119,8 @@ module _ (k : KernelState) (v : Division) (of : IsOf k v) (sound : IsSound k) wh
 
   -- WHERE A PREMISE HOLDS, NO PART FAILS
 
-  no_alarms : (p : Premise) → ((e : ℕ × Alarm) → leak_of (part_of v) (home_of v) p e ≡ None) → AllByRecursion (λ (e : ℕ × Alarm). leak_of (part_of v) (home_of v) p e ≡ None) (enumerate_from 0 (alarms_of k))
-  no_alarms p each = all_of (enumerate_from 0 (alarms_of k))
+  no_alarms : (p : Premise) → ((e : ℕ × Alarm) → leak_of (part_of v) (home_of v) p e ≡ None) → AllByRecursion (λ (e : ℕ × Alarm). leak_of (part_of v) (home_of v) p e ≡ None) (enumerate_from 0 (sources_of k))
+  no_alarms p each = all_of (enumerate_from 0 (sources_of k))
     where
       all_of : (xs : List (ℕ × Alarm)) → AllByRecursion (λ (e : ℕ × Alarm). leak_of (part_of v) (home_of v) p e ≡ None) xs
       all_of [] = tt

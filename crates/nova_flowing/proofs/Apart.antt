@@ -16,8 +16,9 @@ use Rattle.law_turns.specs.Tables.{HasTables}
 use Rattle.law_integrity.specs.Confined.{AreSetsApart, IsClosed, IsIdle, IsMember, Of, WaitsApart}
 use Rattle.law_integrity.proofs.Labels.{context_ec}
 use Rattle.law_sides.proofs.Lists.{in_numbered, numbered_at}
+use Rattle.nova_objects.specs.ObjectTables.{is_domain}
 use Rattle.nova_flowing.specs.Leaks.{apart_at, apart_in, at_cap, at_context, leak_at, leak_by}
-use Rattle.nova_flowing.specs.Tests.{blocked_at, first_of, gives_without, holds, is_blocked_at, is_domain, is_foreign, is_held, is_member, is_of, is_of_neither, is_owned, is_quiet, is_some_with, queues_of, stirs, waits_at_theirs, waits_beside, waits_from_without}
+use Rattle.nova_flowing.specs.Tests.{blocked_at, first_of, gives_without, holds, is_blocked_at, is_foreign, is_held, is_member, is_of, is_of_neither, is_owned, is_quiet, is_some_with, queues_of, stirs, waits_at_theirs, waits_beside, waits_from_without}
 use Rattle.nova_flowing.specs.declared.leak.Field.TheVariants as field
 use Rattle.nova_flowing.specs.declared.leak.Place.TheVariants.{Object as AtObject}
 use Rattle.nova_flowing.specs.declared.leak.Premise.TheVariants.{Apart}

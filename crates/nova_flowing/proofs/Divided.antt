@@ -15,8 +15,10 @@ use Rattle.law_forest.proofs.Members.{all_at, all_from, contains_from_in, in_fro
 use Rattle.law_integrity.specs.Confined.{Of}
 use Rattle.law_flow.specs.Processors.{IsDivided}
 use Rattle.law_sides.proofs.Lists.{in_numbered, numbered_at}
-use Rattle.nova_flowing.specs.Leaks.{alarms_of, at_cap, at_source, divided_at, leak_at, leak_by, leak_of}
-use Rattle.nova_flowing.specs.Tests.{is_creator, is_domain, is_held, is_member}
+use Rattle.nova_objects.specs.ObjectTables.{is_domain}
+use Rattle.nova_kernel.specs.Begun.{sources_of}
+use Rattle.nova_flowing.specs.Leaks.{at_cap, at_source, divided_at, leak_at, leak_by, leak_of}
+use Rattle.nova_flowing.specs.Tests.{is_creator, is_held, is_member}
 use Rattle.nova_flowing.specs.declared.leak.Field.TheVariants as field
 use Rattle.nova_flowing.specs.declared.leak.Place.TheVariants.{Context, Object as AtObject}
 use Rattle.nova_flowing.specs.declared.leak.Premise.TheVariants.{Divided}
@@ -33,14 +35,14 @@ module _ (k : KernelState) (S T P C : ℕ → Bool) where
   pub record AreNone : Type 0 where
     pub by : AllByRecursion (λ (d : Derivation). leak_by k S T P Divided d ≡ None) k.delegations.list
     pub at : AllByRecursion (λ (e : ℕ × Object). leak_at k S T P C Divided e ≡ None) (enumerate_from 0 k.objects)
-    pub of : AllByRecursion (λ (e : ℕ × Alarm). leak_of P C Divided e ≡ None) (enumerate_from 0 (alarms_of k))
+    pub of : AllByRecursion (λ (e : ℕ × Alarm). leak_of P C Divided e ≡ None) (enumerate_from 0 (sources_of k))
 
   module _ (none : AreNone) where
     at_off : (n : ℕ) (o : Object) → slice_get k.objects n ≡ Some o → divided_at k S T P C n o ≡ None
     at_off n o is = numbered_at (λ (e : ℕ × Object). leak_at k S T P C Divided e ≡ None) k.objects n o none.at is
 
     of_off : (n : ℕ) (a : AlarmState) → slice_get k.times.alarms n ≡ Some a → leak_of P C Divided (n, a.alarm) ≡ None
-    of_off n a is = numbered_at (λ (e : ℕ × Alarm). leak_of P C Divided e ≡ None) (alarms_of k) n a.alarm none.of (mapped_at (λ (x : AlarmState). x.alarm) k.times.alarms n a is)
+    of_off n a is = numbered_at (λ (e : ℕ × Alarm). leak_of P C Divided e ≡ None) (sources_of k) n a.alarm none.of (mapped_at (λ (x : AlarmState). x.alarm) k.times.alarms n a is)
 
     pub divided_none : IsDivided k (Of S) (Of T) (Of P) (Of C)
     divided_none = record {
@@ -99,6 +101,6 @@ module _ (k : KernelState) (S T P C : ℕ → Bool) where
         none_both _ _ (off_when _ field.Alarms (at_source n b) (subst (λ (x : Alarm). (C x.cpu && not (P x.sm)) ≡ false) a.2 (off_unless (C a.0.alarm.cpu) (P a.0.alarm.sm) (divided.has.alarms n a.0 a.1))))
         (off_when _ field.Rings (at_source n b) (subst (λ (x : Alarm). (P x.sm && not (C x.cpu)) ≡ false) a.2 (off_unless (P a.0.alarm.sm) (C a.0.alarm.cpu) (divided.has.rings n a.0 a.1))))
 
-    pub divided_of_none : AllByRecursion (λ (e : ℕ × Alarm). leak_of P C Divided e ≡ None) (enumerate_from 0 (alarms_of k))
-    divided_of_none = all_from (λ (e : ℕ × Alarm). leak_of P C Divided e ≡ None) (enumerate_from 0 (alarms_of k)) (λ e i.
-        rung e.0 e.1 (at_mapped (λ (x : AlarmState). x.alarm) k.times.alarms e.0 e.1 (in_numbered (alarms_of k) e i)))
+    pub divided_of_none : AllByRecursion (λ (e : ℕ × Alarm). leak_of P C Divided e ≡ None) (enumerate_from 0 (sources_of k))
+    divided_of_none = all_from (λ (e : ℕ × Alarm). leak_of P C Divided e ≡ None) (enumerate_from 0 (sources_of k)) (λ e i.
+        rung e.0 e.1 (at_mapped (λ (x : AlarmState). x.alarm) k.times.alarms e.0 e.1 (in_numbered (sources_of k) e i)))

@@ -1,4 +1,3 @@
-mod Ranges
 mod Reflecting
 mod Finding
 mod Lineages

@@ -22,10 +22,11 @@ use Rattle.law_integrity.proofs.Labels.{blocked_object}
 use Rattle.law_sides.specs.Resting.{is_nothing, is_resting_in, is_unraised, is_unrung, raises}
 use Rattle.law_sides.proofs.Lists.{at_of_all, of_one}
 use Rattle.law_sides.proofs.Stuck.{idle_from}
+use Rattle.law_sides.proofs.Roles.{obj_not}
 use Rattle.nova_flowing.specs.Premises.{is_blocked}
 use Rattle.nova_flowing.specs.Tests.{blocked_at, is_either, is_quiet}
 use Rattle.nova_flowing.proofs.Finding.{mapped_at}
-use Rattle.nova_flowing.proofs.Reflecting.{here_context, not_both, obj_is, obj_on, off_if, second_is}
+use Rattle.nova_flowing.proofs.Reflecting.{here_context, not_both, obj_is, off_if, second_is}
 
 all_pass : {X : Type 0} (p : X → Bool) (xs : List X) → ((x : X) → IsIn xs x → p x ≡ true) → list_all p xs ≡ true
 all_pass p [] h = refl
@@ -76,7 +77,7 @@ module _ (k : KernelState) (S T : ℕ → Bool) (sound : IsSound k) where
           let d = h.capability in
           not_both (raises sm d && is_either S T d.pd)
           (and_from (raises sm d) (is_either S T d.pd)
-          (and_from (not (is_memory d.kind)) ((d.target == sm) && allows d.rights up_right) (obj_on d.kind h.kind)
+          (and_from (not (is_memory d.kind)) ((d.target == sm) && allows d.rights up_right) (obj_not d.kind h.kind)
           (and_from (d.target == sm) (allows d.rights up_right) (eq-eqb d.target sm h.leads) h.allowed)) (acts_ d.pd h.of))
           (not-true (raises sm d && is_either S T d.pd) (of_one (λ (e : Derivation). not (raises sm e && is_either S T e.pd)) k.delegations.list d none h.there))
 

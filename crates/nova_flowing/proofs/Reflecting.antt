@@ -126,10 +126,6 @@ owned_on k S n None own = refl
 
 -- CAPABILITIES
 
-pub obj_on : (kind : Kind) → kind ≡ Obj → not (is_memory kind) ≡ true
-obj_on Mem is = absurd (cc)
-obj_on Obj is = refl
-
 pub obj_is : (kind : Kind) → not (is_memory kind) ≡ true → kind ≡ Obj
 obj_is Mem is = absurd (cc)
 obj_is Obj is = refl

@@ -1,5 +1,5 @@
 -- Which parts of the premises fail, of each capability, object and alarm of a state. `S` says which domains are a side's, `T` which are the others', `P` which objects its part has, and `C` which processors are its own.
-use Rattle.std.specs.Prelude.{ℕ, ◌&&◌, ◌||◌, Bool, true, false, not, List, [], ◌∷◌, map, Option, Some, None, option_and_then}
+use Rattle.std.specs.Prelude.{ℕ, ◌&&◌, ◌||◌, Bool, true, false, not, List, [], ◌∷◌, Option, Some, None, option_and_then}
 use Rattle.std.specs.Option.{option_or}
 use Rattle.std.specs.List.{enumerate_from}
 use Rattle.nova_objects.specs.declared.object.Object.{Object}
@@ -9,8 +9,9 @@ use Rattle.nova_model.specs.State.{KernelState, context_at}
 use Rattle.nova_model.specs.declared.context.EcState.{EcState}
 use Rattle.nova_model.specs.declared.delegation.Derivation.{Derivation}
 use Rattle.nova_model.specs.declared.times.Alarm.{Alarm}
-use Rattle.nova_model.specs.declared.times.AlarmState.{AlarmState}
-use Rattle.nova_flowing.specs.Tests.{blocked_at, caller_of, gives_without, holds, is_awaited_without, is_creator, is_derived, is_domain, is_foreign, is_member, is_of, is_outside, is_owned, is_shared, is_without, is_written, stirs, waits_at_theirs, waits_beside, waits_from_without}
+use Rattle.nova_objects.specs.ObjectTables.{is_domain}
+use Rattle.nova_kernel.specs.Begun.{sources_of}
+use Rattle.nova_flowing.specs.Tests.{blocked_at, caller_of, gives_without, holds, is_awaited_without, is_creator, is_derived, is_foreign, is_member, is_of, is_outside, is_owned, is_shared, is_without, is_written, stirs, waits_at_theirs, waits_beside, waits_from_without}
 use Rattle.nova_flowing.specs.declared.leak.Leak.{Leak}
 use Rattle.nova_flowing.specs.declared.leak.Field.{Field}
 use Rattle.nova_flowing.specs.declared.leak.Field.TheVariants as field
@@ -110,10 +111,7 @@ abbrev pub first_some : {X Y : Type 0} → (X → Option Y) → List X → Optio
 first_some f [] = None
 first_some f (x ∷ xs) = option_or (f x) (first_some f xs)
 
-abbrev pub alarms_of : KernelState → List Alarm
-alarms_of k = map (λ (a : AlarmState). a.alarm) k.times.alarms
-
 abbrev pub leak_in : KernelState → (ℕ → Bool) → (ℕ → Bool) → (ℕ → Bool) → (ℕ → Bool) → Premise → Option Leak
 leak_in k S T P C p =
     option_or (first_some (leak_by k S T P p) k.delegations.list)
-    (option_or (first_some (leak_at k S T P C p) (enumerate_from 0 k.objects)) (first_some (leak_of P C p) (enumerate_from 0 (alarms_of k))))
+    (option_or (first_some (leak_at k S T P C p) (enumerate_from 0 k.objects)) (first_some (leak_of P C p) (enumerate_from 0 (sources_of k))))

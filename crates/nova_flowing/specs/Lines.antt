@@ -1,10 +1,11 @@
 -- Lines that tell of each side whether the premises hold, and until when it is at work.
-use Rattle.std.specs.Prelude.{ℕ, ◌==◌, ◌&&◌, Bool, false, not, if◌then◌else◌, List, [], ◌++◌, codes, decimal, flat_map, Option, Some, None}
+use Rattle.std.specs.Prelude.{ℕ, ◌==◌, ◌&&◌, Bool, not, if◌then◌else◌, List, [], ◌++◌, codes, decimal, flat_map, Option, Some, None}
 use Rattle.std.specs.List.{enumerate_from, position, range_with_len}
 use Rattle.nova_model.specs.State.{KernelState}
 use Rattle.nova_report.specs.Words.{line_feed}
 use Rattle.nova_naming.specs.Labels.{side_text}
 use Rattle.nova_naming.specs.Statements.{Stated}
+use Rattle.nova_ties.specs.Ties.{has_label, is_place}
 use Rattle.nova_flowing.specs.Premises.{verdict_by}
 use Rattle.nova_flowing.specs.Tables.{home_by, others_by, own_by, part_by}
 use Rattle.nova_flowing.specs.Working.{first_lapse}
@@ -77,13 +78,6 @@ verdict_text C cpus lapse (Waits ec) = codes " waits ec " ++ (decimal ec ++ line
 verdict_text C cpus lapse (Fails premise leak) = codes " " ++ (field_word leak.field ++ place_text leak.place)
 
 -- each side in a line, by the least number of its domains
-abbrev pub is_place : ℕ → Option ℕ → Bool
-is_place n None = false
-is_place n (Some place) = place == n
-
-abbrev pub has_label : ℕ → ℕ → Bool
-has_label label other = other == label
-
 abbrev pub begins_side : List ℕ → ℕ → ℕ → Bool
 begins_side labels n label = not (label == 0) && is_place n (position (has_label label) labels)
 

@@ -1,11 +1,12 @@
 -- A side among the others of some labels: what its domains are, what its part of the objects is, and which processors are its own.
-use Rattle.std.specs.Prelude.{ℕ, ◌==◌, ◌&&◌, ◌||◌, Bool, false, not, List, map, Some}
+use Rattle.std.specs.Prelude.{ℕ, ◌==◌, ◌&&◌, ◌||◌, Bool, false, List, map, Some}
 use Rattle.std.specs.List.{enumerate_from, list_any, range_with_len}
 use Rattle.nova_objects.specs.declared.object.Object.{Object}
 use Rattle.nova_objects.specs.declared.object.Object.TheVariants.{Ec, Sm}
 use Rattle.nova_model.specs.State.{KernelState}
 use Rattle.nova_model.specs.declared.times.Alarm.{Alarm}
-use Rattle.nova_flowing.specs.Leaks.{alarms_of}
+use Rattle.nova_ties.specs.Ties.{is_another}
+use Rattle.nova_kernel.specs.Begun.{sources_of}
 use Rattle.nova_flowing.specs.Tests.{holds, is_in, is_owned, queues_of}
 
 -- the domains of a label, and those of the other sides
@@ -14,9 +15,6 @@ is_label label other = other == label
 
 abbrev pub own_table : List ℕ → ℕ → List Bool
 own_table labels label = map (is_label label) labels
-
-abbrev pub is_another : ℕ → ℕ → Bool
-is_another label other = not (other == 0) && not (other == label)
 
 abbrev pub others_table : List ℕ → ℕ → List Bool
 others_table labels label = map (is_another label) labels
@@ -37,7 +35,7 @@ abbrev pub rings_at : (ℕ → Bool) → ℕ → Alarm → Bool
 rings_at C sm a = C a.cpu && (a.sm == sm)
 
 abbrev pub is_semaphore_of : KernelState → (ℕ → Bool) → (ℕ → Bool) → ℕ → Bool
-is_semaphore_of k S C n = holds k.delegations.list S n || (list_any (queues_of k S n) (enumerate_from 0 k.objects) || list_any (rings_at C n) (alarms_of k))
+is_semaphore_of k S C n = holds k.delegations.list S n || (list_any (queues_of k S n) (enumerate_from 0 k.objects) || list_any (rings_at C n) (sources_of k))
 
 abbrev pub is_part : KernelState → (ℕ → Bool) → (ℕ → Bool) → ℕ × Object → Bool
 is_part k S C (n, Sm) = is_semaphore_of k S C n

@@ -16,6 +16,7 @@ use Rattle.nova_model.specs.declared.context.State.TheVariants.{Blocked, Dead, G
 use Rattle.nova_model.specs.declared.delegation.Derivation.{Derivation}
 use Rattle.law_sides.specs.Resting.{is_unraised, is_unrung}
 use Rattle.law_sides.specs.Tied.{meets}
+use Rattle.nova_objects.specs.ObjectTables.{is_domain}
 
 -- what a table has of a number: false beyond it
 abbrev pub or_false : Option Bool → Bool
@@ -64,10 +65,6 @@ is_shared list S T d = is_held S d && holds list T d.target
 
 abbrev pub is_outside : (ℕ → Bool) → (ℕ → Bool) → Derivation → Bool
 is_outside S P d = is_held S d && not (P d.target)
-
-abbrev pub is_domain : Option Object → Bool
-is_domain (Some Pd) = true
-is_domain other = false
 
 abbrev pub is_creator : KernelState → (ℕ → Bool) → Derivation → Bool
 is_creator k T d = is_held T d && (allows d.rights create_right && is_domain (slice_get k.objects d.target))

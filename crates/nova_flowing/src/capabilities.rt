@@ -114,7 +114,7 @@ fn end_of(target: u32, order: u8) -> u64
 }
 
 /// Whether a frame is below the first one after a range of memory.
-#[tactic(auto, using(crate::proofs::Ranges::far_end))]
+#[tactic(auto, using(law_sides::proofs::Ranges::far_end))]
 fn is_below(target: u32, order: u8, frame: u32) -> bool
     ensures { result ≡ nat_lt frame (target + 2 ^ order) }
 {

@@ -2,8 +2,10 @@
 ghost use Rattle.std.specs.Prelude.{◌≡◌, ◌&&◌, ◌||◌, ◌<◌, option_and_then, option_copied, slice_get};
 ghost use Rattle.std.specs.List.{enumerate_from};
 ghost use Rattle.nova_model.specs.State.{context_at};
-ghost use Rattle.nova_flowing.specs.Leaks.{alarms_of, apart_at, apart_in, at_cap, at_context, at_source, awaited_at, divided_at, first_some, guarded_at, handler_of, is_semaphore, leak_at, leak_by, leak_of, queue_in, rest_in, side_at, side_in, when};
-ghost use Rattle.nova_flowing.specs.Tests.{gives_without, is_domain, is_foreign, waits_at_theirs, waits_from_without};
+ghost use Rattle.nova_objects.specs.ObjectTables.{is_domain};
+ghost use Rattle.nova_kernel.specs.Begun.{sources_of};
+ghost use Rattle.nova_flowing.specs.Leaks.{apart_at, apart_in, at_cap, at_context, at_source, awaited_at, divided_at, first_some, guarded_at, handler_of, is_semaphore, leak_at, leak_by, leak_of, queue_in, rest_in, side_at, side_in, when};
+ghost use Rattle.nova_flowing.specs.Tests.{gives_without, is_foreign, waits_at_theirs, waits_from_without};
 ghost use Rattle.nova_flowing.specs.Premises.{home_of, leak_of_premise, others_of, own_of, part_of};
 
 use crate::capabilities::{
@@ -364,7 +366,7 @@ fn first_at(kernel: &Kernel, list: &[Derivation], v: &Division, premise: Premise
 }
 
 fn first_of(kernel: &Kernel, v: &Division, premise: Premise) -> Option<Leak>
-    ensures { result ≡ first_some (leak_of (part_of v.now) (home_of v.now) premise) (enumerate_from 0 (alarms_of kernel.now.state)) }
+    ensures { result ≡ first_some (leak_of (part_of v.now) (home_of v.now) premise) (enumerate_from 0 (sources_of kernel.now.state)) }
 {
     for (i, source) in kernel.sources().iter().enumerate() {
         let leak = leak_of(v, premise, i as u64, *source);

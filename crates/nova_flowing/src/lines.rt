@@ -1,7 +1,8 @@
 // Lines that tell of each side whether the premises hold.
 ghost use Rattle.std.specs.Prelude.{◌≡◌, ◌++◌, ◌≤◌, ◌^◌, ◌<◌, OnOk, codes, flat_map, length, option_map, string_bytes};
 ghost use Rattle.std.specs.List.{enumerate_from, position, range_with_len};
-ghost use Rattle.nova_flowing.specs.Lines.{begins_side, flow_line, flow_lines, flow_text, has_label, home_text, homes_text, is_place, field_word, lapse_text, place_text, verdict_text, work_text};
+ghost use Rattle.nova_ties.specs.Ties.{has_label, is_place};
+ghost use Rattle.nova_flowing.specs.Lines.{begins_side, flow_line, flow_lines, flow_text, home_text, homes_text, field_word, lapse_text, place_text, verdict_text, work_text};
 ghost use Rattle.nova_flowing.specs.Tests.{is_in};
 ghost use Rattle.nova_flowing.specs.Working.{first_lapse};
 

@@ -1,9 +1,10 @@
 // A side among the others of some labels, as tables.
 ghost use Rattle.std.specs.Prelude.{◌≡◌, ◌≤◌, ◌||◌, ◌<◌, ◌^◌, IfOk, length};
 ghost use Rattle.std.specs.List.{enumerate_from, list_any};
-ghost use Rattle.nova_flowing.specs.Leaks.{alarms_of};
+ghost use Rattle.nova_ties.specs.Ties.{is_another};
+ghost use Rattle.nova_kernel.specs.Begun.{sources_of};
 ghost use Rattle.nova_flowing.specs.Premises.{IsOf};
-ghost use Rattle.nova_flowing.specs.Tables.{home_by, home_table, is_another, is_home, is_label, is_on, is_part, is_semaphore_of, others_table, own_table, part_table, rings_at};
+ghost use Rattle.nova_flowing.specs.Tables.{home_by, home_table, is_home, is_label, is_on, is_part, is_semaphore_of, others_table, own_table, part_table, rings_at};
 ghost use Rattle.nova_flowing.specs.Tests.{is_in};
 
 use crate::capabilities::holds;

@@ -1,6 +1,7 @@
 ghost use Rattle.std.specs.Prelude.{◌≡◌, ◌<◌, not, option_copied, slice_get, ℕ};
 ghost use Rattle.nova_model.specs.Delegations.{is_memory};
-ghost use Rattle.nova_flowing.specs.Tests.{is_domain, is_held, is_in, is_member, is_of, is_owned};
+ghost use Rattle.nova_objects.specs.ObjectTables.{is_domain};
+ghost use Rattle.nova_flowing.specs.Tests.{is_held, is_in, is_member, is_of, is_owned};
 
 use nova_kernel::{Derivation, Kernel, Kind, Object};
 

@@ -1,1 +1,1 @@
-mod Replaced
+pub mod Replaced

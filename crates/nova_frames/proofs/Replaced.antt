@@ -34,7 +34,7 @@ get_or-replaced_other : (bytes new : List ℕ) (offset k : ℕ) → offset + len
 get_or-replaced_other bytes new offset k h apart = grind (arith, places)
 
 -- a number that lies apart from what was stored
-little_number-replaced_other : (bytes new : List ℕ) (offset o width : ℕ) → offset + length new ≤ length bytes
+pub little_number-replaced_other : (bytes new : List ℕ) (offset o width : ℕ) → offset + length new ≤ length bytes
     → (o + width ≤ offset) ⊎ (offset + length new ≤ o)
     → little_number width (drop o (replaced bytes offset new)) ≡ little_number width (drop o bytes)
 little_number-replaced_other bytes new offset o width h apart =

@@ -3,6 +3,7 @@ use Rattle.std.specs.Prelude.{◌≡◌, ◌<◌, ◌≤◌, ◌⊎◌, ℕ, ◌
 use Rattle.std.specs.List.{All, AllPairs, list_any}
 use Rattle.nova_range.specs.Ranges.{IsRange}
 use Rattle.nova_range.specs.declared.range.Kind.TheVariants.{Mem}
+pub use Rattle.rv_model.specs.Step.{IsWidth}
 use Rattle.nova_guest.specs.Alone.{applied}
 use Rattle.nova_guest.specs.Maps.{overlaps}
 use Rattle.nova_guest.specs.declared.cell.Cell.{Cell}
@@ -36,10 +37,6 @@ AreWhole cells = All (λ c. length c.contents ≡ 4096) cells
 pub record IsGuest (v : Guest) : Type 0 where
   pub maps : AreMaps v.maps
   pub cells : AreWhole v.cells
-
--- the bytes that a load or a store goes over
-abbrev pub IsWidth : ℕ → Type 0
-IsWidth width = (width ≡ 1) ⊎ ((width ≡ 2) ⊎ (width ≡ 4))
 
 -- contents are those of all frames of a map, or there are none
 abbrev pub AreContents : ℕ → List ℕ → Type 0

@@ -7,6 +7,8 @@ use Rattle.nova_model.specs.State.{KernelState}
 use Rattle.nova_naming.specs.Labels.{flows_of, label_of, semaphores_of}
 use Rattle.nova_naming.specs.Statements.{Stated}
 use Rattle.nova_sides.specs.Among.{is_among, is_flow}
+use Rattle.nova_ties.specs.Ties.{is_another}
+use Rattle.nova_objects.specs.ObjectTables.{is_domain}
 use Rattle.nova_judging.specs.declared.strangers.Expected.{Expected}
 use Rattle.nova_judging.specs.declared.strangers.Expected.TheVariants.{Domain, Semaphore}
 use Rattle.nova_judging.specs.declared.strangers.Stranger.{Stranger}
@@ -28,10 +30,6 @@ abbrev pub flows_between : List Stated → ℕ → ℕ → Bool
 flows_between policy = is_flow (flows_of policy)
 
 -- a number is that of a domain, or of a semaphore
-abbrev pub is_domain : Option Object → Bool
-is_domain (Some Pd) = true
-is_domain other = false
-
 abbrev pub is_domain_of : KernelState → ℕ → Bool
 is_domain_of k n = is_domain (slice_get k.objects n)
 
@@ -76,9 +74,6 @@ abbrev pub first_stranger : List Stated → KernelState → Option Stranger
 first_stranger policy k = stranger_of k (find (is_strange k) policy)
 
 -- two domains have two sides
-abbrev pub is_another : ℕ → ℕ → Bool
-is_another label other = not (other == 0) && not (other == label)
-
 abbrev pub has_another : List ℕ → ℕ → Bool
 has_another labels label = not (label == 0) && list_any (is_another label) labels
 

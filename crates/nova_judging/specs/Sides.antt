@@ -1,10 +1,10 @@
 -- Lines that tell sides.
-use Rattle.std.specs.Prelude.{ℕ, ◌==◌, Bool, false, not, ◌&&◌, if◌then◌else◌, List, [], ◌++◌, codes, decimal, flat_map, Option, Some, None}
+use Rattle.std.specs.Prelude.{ℕ, ◌==◌, Bool, not, ◌&&◌, if◌then◌else◌, List, [], ◌++◌, codes, decimal, flat_map}
 use Rattle.std.specs.List.{enumerate_from, position}
 use Rattle.nova_objects.specs.declared.object.Object.{Object}
 use Rattle.nova_objects.specs.declared.object.Object.TheVariants.{Pd}
 use Rattle.nova_report.specs.Words.{line_feed}
-use Rattle.nova_ties.specs.Ties.{label_in}
+use Rattle.nova_ties.specs.Ties.{label_in, has_label, is_place}
 use Rattle.nova_naming.specs.Labels.{side_text}
 use Rattle.nova_naming.specs.Statements.{Stated}
 
@@ -15,14 +15,6 @@ member_text labels label (n, other) = []
 
 abbrev pub members_text : List ℕ → ℕ → List Object → List ℕ
 members_text labels label objects = flat_map (member_text labels label) (enumerate_from 0 objects)
-
--- a number is the first with its label
-abbrev pub is_place : ℕ → Option ℕ → Bool
-is_place n None = false
-is_place n (Some place) = place == n
-
-abbrev pub has_label : ℕ → ℕ → Bool
-has_label label other = other == label
 
 abbrev pub begins_side : List ℕ → ℕ × ℕ → Bool
 begins_side labels (n, label) = not (label == 0) && is_place n (position (has_label label) labels)

@@ -1,6 +1,7 @@
 ghost use Rattle.std.specs.Prelude.{◌≡◌, ◌<◌, ◌≤◌, ◌^◌, IfOk, length};
 ghost use Rattle.std.specs.List.{list_any};
-ghost use Rattle.nova_judging.specs.Labelled.{are_two, has_another, is_another, labelled, labels_of};
+ghost use Rattle.nova_ties.specs.Ties.{is_another};
+ghost use Rattle.nova_judging.specs.Labelled.{are_two, has_another, labelled, labels_of};
 
 use nova_kernel::{Kernel, Object};
 use nova_naming::Policy;

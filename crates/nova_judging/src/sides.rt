@@ -1,6 +1,7 @@
 ghost use Rattle.std.specs.Prelude.{◌≡◌, ◌++◌, ◌≤◌, ◌^◌, OnOk, flat_map, length, string_bytes};
 ghost use Rattle.std.specs.List.{enumerate_from, position};
-ghost use Rattle.nova_judging.specs.Sides.{begins_side, has_label, is_place, member_text, members_text, side_line, side_lines};
+ghost use Rattle.nova_ties.specs.Ties.{has_label, is_place};
+ghost use Rattle.nova_judging.specs.Sides.{begins_side, member_text, members_text, side_line, side_lines};
 
 use nova_kernel::Object;
 use nova_naming::Policy;

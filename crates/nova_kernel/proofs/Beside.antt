@@ -1,24 +1,18 @@
 -- Registers that lie beside the table of execution contexts while turns are charged.
-use Rattle.std.proofs.Common.{◌≡◌, ◌+◌, ◌-◌, ◌<◌, ◌≤◌, ℕ, zero, suc, ap, sym, subst, ◌∙◌, refl, length, arith, List, false}
-use Rattle.std.specs.Prelude.{Bool, ◌&&◌, nat_lt, nat_le, Option, Some, None, IsSome, IfSome, option_map, slice_get, slice_set, slice_index}
+use Rattle.std.proofs.Common.{◌≡◌, ◌-◌, ℕ, zero, suc, ap, sym, ◌∙◌, refl, List}
+use Rattle.std.specs.Prelude.{Option, Some, None, IsSome, slice_get}
 use Rattle.std.proofs.lemmas.List.{set-set}
 use Rattle.rv_model.specs.Registers.{Registers}
-use Rattle.nova_model.specs.Choice.{Candidate, choice}
+use Rattle.nova_model.specs.Choice.{choice}
 use Rattle.nova_model.specs.Edges.{AreEdges}
-use Rattle.nova_model.specs.State.{Contexts, KernelState, budget_at, context, context_at, context_in, entry, with_ec}
-use Rattle.nova_model.specs.Times.{Entry, Times, clock, due_on, next_entry}
+use Rattle.nova_model.specs.State.{Contexts, KernelState, budget_at, context, context_at, context_in, with_ec}
 use Rattle.nova_model.specs.Turn.{charged, counted, paid_by, quantum_in}
 use Rattle.nova_model.specs.declared.budget.Budget.{Budget}
 use Rattle.nova_model.specs.declared.context.EcState.{EcState}
-use Rattle.nova_ec.specs.Ways.{TurnsStay}
-use Rattle.law_turns.specs.Moments.{IsEarly}
-use Rattle.law_turns.proofs.Moments.{early_calm, next_clocks}
-use Rattle.law_turns.proofs.Setting.{entry_itself, index_itself}
-use Rattle.law_leases.specs.Advances.{budget_used, is_used}
-use Rattle.law_leases.specs.Paging.{charged_at_once, charged_times}
-use Rattle.law_leases.specs.Rides.{IsRideable}
+use Rattle.law_turns.proofs.Setting.{entry_itself}
+use Rattle.law_leases.specs.Paging.{charged_times}
 use Rattle.law_leases.proofs.Advanced.{set_there}
-use Rattle.law_leases.proofs.Choosing.{choice_same, stamps_stay, turns_go_on}
+use Rattle.law_leases.proofs.Choosing.{choice_same, turns_go_on}
 use Rattle.law_leases.proofs.Riding.{IsRidden, still_there}
 use Rattle.nova_choice.specs.Schedules.{AreQueued}
 use Rattle.nova_choice.specs.declared.choice.Chosen.{Chosen}
@@ -96,39 +90,3 @@ one_keeps k s cpu sc keeps = by_budget (budget_at s sc)
 pub times_keep : (n : ℕ) (k : KernelState) (cpu sc : ℕ) → KeepsTables k (charged_times n k cpu sc)
 times_keep zero k cpu sc = record { contexts = refl; objects = refl; guests = refl }
 times_keep (suc n) k cpu sc = one_keeps k (charged_times n k cpu sc) cpu sc (times_keep n k cpu sc)
-
--- WITH FEWER TURNS THAN ARE LEFT, THE SAME SCHEDULING CONTEXT IS NEXT
-
-stamp_still : (n q stamp : ℕ) (b : Budget) → n < b.left → (budget_used (is_used n b) n q stamp b).stamp ≡ b.stamp
-stamp_still n q stamp b more = ap (λ (t : Bool). (budget_used t n q stamp b).stamp) (unused n b.left more)
-  where
-    unused : (n left : ℕ) → n < left → (nat_lt 0 n && nat_le left n) ≡ false
-    unused n left more = grind arith
-
-pub still_chosen : (k m : KernelState) (cpu n : ℕ) (c : Candidate) (b : Budget) → IsRideable k cpu c b → IsRidden k m c.actor → n < b.left → choice (charged_at_once m cpu c.sc b n) cpu ≡ Some c
-still_chosen k m cpu n c b may is more =
-    choice_same k (charged_at_once m cpu c.sc b n) cpu (record {
-      objects = ap (λ (s : KernelState). s.objects) is.rest;
-      turns = λ ec. subst (λ (cs : Contexts). TurnsStay k.contexts cs ec) (sym is.contexts)
-          (turns_go_on k.contexts c.actor (context k c.actor) (record (context k c.actor) { regs = is.regs }) may.edges (there_at k.contexts c.actor may.there) refl ec);
-      stamps = λ sc. ap (λ (bs : List (Option Budget)). option_map (λ (b : Budget). b.stamp) (entry (slice_get (slice_set bs c.sc (Some used)) sc))) (ap (λ (s : KernelState). s.budgets) is.rest)
-          ∙ stamps_stay k.budgets c.sc b used may.budget (stamp_still n (quantum_in (slice_get m.objects c.sc)) m.next_stamp b more) sc;
-    }) ∙ may.chosen
-  where
-    used : Budget
-    used = budget_used (is_used n b) n (quantum_in (slice_get m.objects c.sc)) m.next_stamp b
-
-early_later : (t : Times) (cpu n : ℕ) → cpu < length t.clocks → IsEarly t cpu (suc n) → IsEarly (record t { clocks = slice_set t.clocks cpu (slice_index t.clocks cpu + n) }) cpu 1
-early_later t cpu n there early =
-    subst (λ (o : Option Entry). IfSome (option_map (λ moment. moment - slice_index (slice_set t.clocks cpu (slice_index t.clocks cpu + n)) cpu) (option_map (λ (e : Entry). e.moment) o)) (λ left. 1 ≤ left))
-    (sym (next_clocks t (slice_set t.clocks cpu (slice_index t.clocks cpu + n)) cpu)) (by_next (next_entry t cpu) early)
-  where
-    by_next : (o : Option Entry) → IfSome (option_map (λ moment. moment - clock t cpu) (option_map (λ (e : Entry). e.moment) o)) (λ left. suc n ≤ left) →
-        IfSome (option_map (λ moment. moment - slice_index (slice_set t.clocks cpu (slice_index t.clocks cpu + n)) cpu) (option_map (λ (e : Entry). e.moment) o)) (λ left. 1 ≤ left)
-    by_next None far = tt
-    by_next (Some e) far = let now = index_itself t.clocks cpu (slice_index t.clocks cpu + n) there in omega (arith, now, far)
-
-pub still_calm : (k m : KernelState) (cpu n : ℕ) (c : Candidate) (b : Budget) → IsRideable k cpu c b → IsRidden k m c.actor → IsEarly k.times cpu (suc n) → due_on (charged_at_once m cpu c.sc b n).times cpu ≡ None
-still_calm k m cpu n c b may is early =
-    subst (λ (t : Times). due_on (record t { clocks = slice_set t.clocks cpu (slice_index t.clocks cpu + n) }) cpu ≡ None) (sym (ap (λ (s : KernelState). s.times) is.rest))
-    (early_calm (record k.times { clocks = slice_set k.times.clocks cpu (slice_index k.times.clocks cpu + n) }) cpu 0 (early_later k.times cpu n may.clock early))

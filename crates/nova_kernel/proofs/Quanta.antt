@@ -23,7 +23,7 @@ use Rattle.law_leases.specs.Paging.{charged_at_once, charged_times}
 use Rattle.law_leases.specs.Rides.{rides}
 use Rattle.law_leases.proofs.Advanced.{set_there}
 use Rattle.law_leases.proofs.Paid.{charged_all}
-use Rattle.law_leases.proofs.Riding.{IsRidden, in_front_append, ridden}
+use Rattle.law_leases.proofs.Riding.{IsRidden, in_front_append, ridden, charged_calm, charged_choice}
 use Rattle.nova_choice.specs.Choices.{chosen_of}
 use Rattle.nova_choice.specs.Schedules.{AreQueued, budgets_of, is_ready}
 use Rattle.nova_choice.specs.declared.choice.Chosen.{Chosen}
@@ -47,7 +47,7 @@ use Rattle.nova_turn.specs.declared.parts.Parts.{Parts}
 use Rattle.nova_kernel.specs.Rides.{AreSteps, IsBeside, IsLater, IsNext, IsHalted, IsStepping, MayCount, MayRide, Raises, beside, step_by, without_counts}
 use Rattle.nova_kernel.proofs.Known.{chosen_budget, known_along, known_on}
 use Rattle.nova_kernel.proofs.Rides.{bounds_after, counted_along, events_rode, may_count, may_ride_on, ridden_on, ridden_queued, running_after_ride, same_cpus, same_turns, times_on, turns_rode}
-use Rattle.nova_kernel.proofs.Beside.{KeepsTables, beside_context, beside_there, choice_back, still_calm, still_chosen, times_beside, times_keep}
+use Rattle.nova_kernel.proofs.Beside.{KeepsTables, beside_context, beside_there, choice_back, times_beside, times_keep}
 
 -- WHICH CONTEXT MAY RIDE, AS THE QUEUES HAVE IT
 
@@ -244,9 +244,9 @@ module _ (p q r : Parts) (cpu : ℕ) (chosen : Chosen) (x y : Registers) (n most
       let landed : beside r chosen y ≡ charged_at_once m cpu c.sc b n =
       lands ∙ (ap (λ (d : Chosen). charged_times n m cpu d.sc) rides_on.same ∙ charged_all n m cpu c.sc b (omega (arith, fewer, left)) budget within clocked) in
       let told : Some chosen ≡ option_map chosen_of (choice (beside r chosen y) cpu) = subst (λ (s : KernelState). Some chosen ≡ option_map chosen_of (choice s cpu)) (sym landed)
-      (ap Some rides_on.same ∙ ap (option_map chosen_of) (sym (still_chosen k m cpu n c b rides_on.may went (omega (arith, fewer, left))))) in record {
+      (ap Some rides_on.same ∙ ap (option_map chosen_of) (sym (charged_choice k m cpu n c b rides_on.may went (omega (arith, fewer, left))))) in record {
         none_due = subst (λ (s : KernelState). due_on s.times cpu ≡ None) (sym landed)
-            (still_calm k m cpu n c b rides_on.may went (early_fewer k.times cpu (suc n) most (omega (arith, fewer)) rides_on.early));
+            (charged_calm k m cpu n c b rides_on.may went (early_fewer k.times cpu (suc n) most (omega (arith, fewer)) rides_on.early));
         told = told;
         there = beside_there (state_of r) chosen.actor y still_acts.there;
         pays = chosen_budget (beside r chosen y) cpu chosen told;

@@ -17,7 +17,7 @@ use Rattle.nova_memory.proofs.Recents.{hit, leads_still}
 
 -- PLACES
 
-set_or : (xs : List Slot) (n : ℕ) (v : Slot) (i : ℕ) (x : Slot) → slice_get (slice_set xs n v) i ≡ Some x → ((i ≡ n) × (v ≡ x)) ⊎ (slice_get xs i ≡ Some x)
+pub set_or : {T : Type 0} (xs : List T) (n : ℕ) (v : T) (i : ℕ) (x : T) → slice_get (slice_set xs n v) i ≡ Some x → ((i ≡ n) × (v ≡ x)) ⊎ (slice_get xs i ≡ Some x)
 set_or [] n v i x h = absurd (cc)
 set_or (y ∷ xs) zero v zero x h = inl (refl, same_Some v x h)
 set_or (y ∷ xs) zero v (suc i) x h = inr h
@@ -118,7 +118,7 @@ apart_four : (a b : ℕ) → a % 4 ≡ 0 → b % 4 ≡ 0 → a / 4 ≢ b / 4 →
 apart_four a b h g ne = grind arith
 
 -- another word lies apart, and what is stored lies within its frame
-apart_of : (a b w : ℕ) → a % 4 ≡ 0 → IsWidth w → b % w ≡ 0 → a / 4 ≢ b / 4 → (a + 4 ≤ b) ⊎ (b + w ≤ a)
+pub apart_of : (a b w : ℕ) → a % 4 ≡ 0 → IsWidth w → b % w ≡ 0 → a / 4 ≢ b / 4 → (a + 4 ≤ b) ⊎ (b + w ≤ a)
 apart_of a b w h (inl e) aligned ne = subst (λ (n : ℕ). (a + 4 ≤ b) ⊎ (b + n ≤ a)) (sym e) (apart_one a b h ne)
 apart_of a b w h (inr (inl e)) aligned ne = subst (λ (n : ℕ). (a + 4 ≤ b) ⊎ (b + n ≤ a)) (sym e) (apart_two a b h (ap (λ (n : ℕ). b % n) (sym e) ∙ aligned) ne)
 apart_of a b w h (inr (inr e)) aligned ne = subst (λ (n : ℕ). (a + 4 ≤ b) ⊎ (b + n ≤ a)) (sym e) (apart_four a b h (ap (λ (n : ℕ). b % n) (sym e) ∙ aligned) ne)

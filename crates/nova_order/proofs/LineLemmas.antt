@@ -1,9 +1,10 @@
 -- The lines of an order's text.
-use Rattle.std.proofs.Common.{◌≡◌, ℕ, ◌+◌, ◌≤◌, ◌<◌, Bool, true, false, cond, List, [], ◌∷◌, length, refl, ap, sym, subst, ◌∙◌, arith, Option, Some, None, Result, Ok, Err}
+use Rattle.std.proofs.Common.{◌≡◌, ℕ, ◌+◌, ◌≤◌, ◌<◌, List, [], ◌∷◌, length, refl, ap, sym, subst, ◌∙◌, arith, Option, Some, None, Result, Ok, Err}
 use Rattle.std.proofs.lemmas.List.{drop_all}
-use Rattle.std.specs.List.{position_or_len, slice_split, onto_first, before_first, after_first}
+use Rattle.std.specs.List.{position_or_len, slice_split, before_first, after_first}
 use Rattle.std.proofs.lemmas.List.Splits.{slice_split_first, slice_split_none}
 use Rattle.std.proofs.lemmas.List.Sums.{fails_before_first}
+use Rattle.nova_text.proofs.LineLemmas.{Parts, parts}
 use Rattle.nova_order.specs.Numbers.{number}
 use Rattle.nova_order.specs.Text.{block_of, block_of_numbers, is_space, is_line_feed}
 use Rattle.nova_order.specs.Read.{read_lines, and_then, with_line, ended, next_line, IsFault}
@@ -27,24 +28,6 @@ block_none line beyond =
     ap (λ bs. block_of_numbers (number (before_first is_space line)) (number bs)) none
     ∙ ap (block_of_numbers (number (before_first is_space line))) number_none
     ∙ no_count (number (before_first is_space line))
-
--- there is always a part
-pub record Parts (ps : List (List ℕ)) : Type 0 where
-  pub first : List ℕ
-  pub others : List (List ℕ)
-  pub are : ps ≡ first ∷ others
-
-parts_onto : (b : ℕ) (ps : List (List ℕ)) → Parts (onto_first b ps)
-parts_onto b [] = record { first = b ∷ []; others = []; are = refl }
-parts_onto b (p ∷ ps) = record { first = b ∷ p; others = ps; are = refl }
-
-parts_cond : (feed : Bool) (b : ℕ) (ps : List (List ℕ)) → Parts (cond feed ([] ∷ ps) (onto_first b ps))
-parts_cond true b ps = record { first = []; others = ps; are = refl }
-parts_cond false b ps = parts_onto b ps
-
-pub parts : (bs : List ℕ) → Parts (slice_split is_line_feed bs)
-parts [] = record { first = []; others = []; are = refl }
-parts (b ∷ bs) = parts_cond (is_line_feed b) b (slice_split is_line_feed bs)
 
 -- a line before another part is read
 pub read_line : (cpus most : ℕ) (blocks : List Block) (line : List ℕ) (ps : List (List ℕ)) → Parts ps → read_lines cpus most blocks (line ∷ ps) ≡ and_then (with_line cpus most blocks line) (λ more. read_lines cpus most more ps)

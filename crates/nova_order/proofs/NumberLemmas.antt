@@ -9,6 +9,7 @@ use Rattle.std.specs.Str.Parse.{AllDigits, IsNumeral, digits_value, ParsesUnsign
 use Rattle.std.proofs.lemmas.Fmt.{decimal_is_IsNumeral, first_decimal, decimal_digit, decimal-digits_value}
 use Rattle.std.proofs.lemmas.Str.Ascii.{IsAscii-nil, IsAscii-cons}
 use Rattle.std.proofs.lemmas.Str.Parse.{without_leading_plus_none, numerals_by_value, tells_digits}
+use Rattle.nova_text.proofs.NumberLemmas.{all-digits}
 use Rattle.nova_order.specs.Numbers.{is_canonical, u64_of, number}
 
 -- a digit is ASCII, and no sign
@@ -25,10 +26,6 @@ digits_ascii (d ∷ ds) all = IsAscii-cons d ds (digit_ascii d (grind arith)) (d
 digits_all : (ds : List ℕ) → list_all (λ c. is_digit c 10) ds ≡ true → AllDigits 10 ds
 digits_all [] all = tt
 digits_all (d ∷ ds) all = (grind arith, digits_all ds (grind arith))
-
-all_digits : (ds : List ℕ) → AllDigits 10 ds → list_all (λ c. is_digit c 10) ds ≡ true
-all_digits [] all = refl
-all_digits (d ∷ ds) all = grind (arith, all_digits ds all.1)
 
 pub canonical_ascii : (ds : List ℕ) → is_canonical ds ≡ true → IsAscii ds
 canonical_ascii ds is = digits_ascii ds (grind arith)
@@ -63,10 +60,10 @@ canonical_decimal : (n : ℕ) → n < 2 ^ 64 → is_canonical (decimal n) ≡ tr
 canonical_decimal zero small = rw (decimal_digit 0 (omega arith)) refl
 canonical_decimal (suc n) small =
     let is = decimal_is_IsNumeral (suc n) small in
-    canonical (decimal (suc n)) is.0.0 (all_digits (decimal (suc n)) is.0.1) (first_decimal (suc n) (omega arith) small)
+    canonical (decimal (suc n)) is.0.0 (all-digits (decimal (suc n)) is.0.1) (first_decimal (suc n) (omega arith) small)
 
 pub digits_decimal : (n : ℕ) → n < 2 ^ 64 → list_all (λ c. is_digit c 10) (decimal n) ≡ true
-digits_decimal n small = all_digits (decimal n) (decimal_is_IsNumeral n small).0.1
+digits_decimal n small = all-digits (decimal n) (decimal_is_IsNumeral n small).0.1
 
 pub number_decimal : (n : ℕ) → n < 2 ^ 64 → number (decimal n) ≡ Some n
 unfolding number

@@ -8,6 +8,7 @@ use Rattle.std.proofs.lemmas.List.Sums.{sum_by-cons}
 use Rattle.std.proofs.lemmas.List.Folds.{list_all-append}
 use Rattle.std.proofs.lemmas.List.Concat.{flat_map-append}
 use Rattle.std.proofs.lemmas.List.Splits.{slice_split_at, join_with_byte-slice_split}
+use Rattle.nova_text.proofs.LineLemmas.{Parts, parts}
 use Rattle.nova_order.specs.Blocks.{total, is_of, is_merged_after, IsOrder, is_within}
 use Rattle.nova_order.specs.Text.{line_of, text_of, block_of, is_line_feed}
 use Rattle.nova_order.specs.Read.{judged, with_block, with_line, and_then, ended, read_lines, order_of, next_line, BeginsWell}
@@ -15,7 +16,7 @@ use Rattle.nova_order.specs.declared.block.Block.{Block}
 use Rattle.nova_order.specs.declared.fault.OrderFault.{OrderFault}
 use Rattle.nova_order.specs.declared.fault.OrderFault.TheVariants.{BadCpu, ZeroCount, NotMerged, TooMany, Memory}
 use Rattle.nova_order.proofs.BlockLemmas.{merged_push, total_push, counted_push}
-use Rattle.nova_order.proofs.LineLemmas.{Parts, parts, read_line, split_line}
+use Rattle.nova_order.proofs.LineLemmas.{read_line, split_line}
 use Rattle.nova_order.proofs.TextLemmas.{words_of, block_of_words, no_feed_in_words, words_of_line}
 
 last_push : (o : Option Block) (bs : List Block) (b : Block) → last_or o (bs ++ b ∷ []) ≡ Some b

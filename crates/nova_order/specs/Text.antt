@@ -2,6 +2,7 @@
 use Rattle.std.specs.Prelude.{ℕ, ◌==◌, Bool, List, [], ◌∷◌, ◌++◌, flat_map, Option, Some, None}
 use Rattle.std.specs.Fmt.{decimal}
 use Rattle.std.specs.List.{before_first, after_first}
+pub use Rattle.nova_text.specs.Bytes.{is_line_feed}
 use Rattle.nova_order.specs.Numbers.{number}
 use Rattle.nova_order.specs.declared.block.Block.{Block}
 
@@ -22,9 +23,6 @@ block_of_numbers (Some cpu) (Some count) = Some (record { cpu = cpu; count = cou
 -- a space, and a line feed
 abbrev pub is_space : ℕ → Bool
 is_space b = b == 32
-
-abbrev pub is_line_feed : ℕ → Bool
-is_line_feed b = b == 10
 
 -- the block that a line says, without its line feed
 unfoldable pub block_of : List ℕ → Option Block

@@ -1,6 +1,6 @@
 -- The bytes of frames, one after another.
 use Rattle.std.proofs.Common.{◌≡◌, ◌<◌, ◌≤◌, ℕ, zero, suc, ◌+◌, ◌++◌, List, [], ◌∷◌, length, take, drop, refl, sym, ap, ◌∙◌, arith}
-use Rattle.std.specs.Prelude.{Some, slice_get, Result, Ok, Err, OnErr}
+use Rattle.std.specs.Prelude.{Some, slice_get}
 use Rattle.std.specs.List.{concat}
 use Rattle.std.proofs.lemmas.List.{append-nil, append_assoc, length-append, length-drop, length-take}
 
@@ -61,8 +61,3 @@ pub has_bytes : (ram : List (List ℕ)) (n frame i : ℕ) (x : List ℕ) → i <
 has_bytes ram n frame i x low is some =
     let most = concat_has (take n (drop frame ram)) i x (taken_at (drop frame ram) n i low ∙ frame_at ram frame i x is) in
     omega (arith, most, some)
-
--- what holds at all holds after an error
-pub on_err : {T E P : Type 0} (r : Result T E) → P → OnErr r P
-on_err (Ok x) p = tt
-on_err (Err e) p = p

@@ -1,5 +1,5 @@
 -- A store of another that was noted, and that of the definition.
-use Rattle.std.proofs.Common.{◌≡◌, ℕ, zero, suc, List, [], ◌∷◌, length, refl, ap, ap₂, ◌∙◌, arith}
+use Rattle.std.proofs.Common.{◌≡◌, ℕ, length, refl, ap, ap₂, ◌∙◌}
 use Rattle.std.specs.Prelude.{Bool, true, false, ◌&&◌, ◌%◌, nat_lt, if◌then◌else◌, Option, Some, None, is_some, option_map, option_and_then, slice_get}
 use Rattle.std.specs.List.{list_any}
 use Rattle.rv_model.specs.Step.{Store}
@@ -14,13 +14,8 @@ use Rattle.nova_model.specs.Inputs.{foreign, foreign_by, in_ram, is_covered_for,
 use Rattle.nova_model.specs.Memory.{Memory}
 use Rattle.nova_model.specs.State.{KernelState, pd_of}
 use Rattle.nova_range.specs.Rights.{write_right}
+use Rattle.nova_deeds.proofs.Stirred.{frame_there}
 use Rattle.nova_preview.specs.Ahead.{foreign_at, write_by}
-
--- a frame that is there
-frame_there : {T : Type 0} → (xs : List T) (n : ℕ) → nat_lt n (length xs) ≡ is_some (slice_get xs n)
-frame_there [] n = grind arith
-frame_there (x ∷ xs) zero = grind arith
-frame_there (x ∷ xs) (suc n) = let e : nat_lt (suc n) (suc (length xs)) ≡ nat_lt n (length xs) = grind arith in e ∙ frame_there xs n
 
 here : (k : KernelState) (pd frame : ℕ) (s : Store) (t : Bool) →
     (if t && is_covered_for k pd frame then Some (input.Foreign frame (s.address % 4096) s.width s.value) else None)

@@ -1,6 +1,6 @@
 -- Range words: base << 12 | order << 7 | rights << 2 | type, with the base in bits 12 to 31, the order in bits 7 to 11, the rights
 -- in bits 2 to 6 and the type in bits 0 and 1.
-use Rattle.std.specs.Prelude.{ℕ, ◌+◌, ◌*◌, ◌/◌, ◌%◌, ◌^◌, ◌==◌, nat_lt, if◌then◌else◌, Option, Some, None, Result, Ok, Err}
+use Rattle.std.specs.Prelude.{ℕ, ◌+◌, ◌*◌, ◌%◌, ◌^◌, ◌==◌, nat_lt, if◌then◌else◌, Option, Some, None, Result, Ok, Err, ◌/◌}
 use Rattle.nova_range.specs.Ranges.{IsRange}
 use Rattle.nova_range.specs.Rights.{IsRights, rights_of}
 use Rattle.nova_range.specs.declared.range.Kind.{Kind}
@@ -10,21 +10,17 @@ use Rattle.nova_range.specs.declared.rights.Rights.{Rights}
 use Rattle.nova_range.specs.declared.word.WordFault.{WordFault}
 use Rattle.nova_range.specs.declared.word.WordFault.TheVariants.{BadType, BadOrder, BadBase}
 
--- the number in the `count` bits of a word from bit `low` on
-abbrev pub bits_of : ℕ → ℕ → ℕ → ℕ
-bits_of word low count = word / 2 ^ low % 2 ^ count
-
 abbrev pub type_in : ℕ → ℕ
-type_in word = bits_of word 0 2
+type_in word = word / 2 ^ 0 % 2 ^ 2
 
 abbrev pub rights_in : ℕ → ℕ
-rights_in word = bits_of word 2 5
+rights_in word = word / 2 ^ 2 % 2 ^ 5
 
 abbrev pub order_in : ℕ → ℕ
-order_in word = bits_of word 7 5
+order_in word = word / 2 ^ 7 % 2 ^ 5
 
 abbrev pub base_in : ℕ → ℕ
-base_in word = bits_of word 12 20
+base_in word = word / 2 ^ 12 % 2 ^ 20
 
 -- the types: 1 is memory and 3 is object. Type 0 is null, and type 2 is none.
 abbrev pub type_of : Kind → ℕ

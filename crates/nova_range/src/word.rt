@@ -1,5 +1,5 @@
-ghost use Rattle.std.specs.Prelude.{◌≡◌, ◌<◌, IfOk};
-ghost use Rattle.nova_range.specs.RangeWords.{HasWord, bits_of, type_of, meaning_of, word_of};
+ghost use Rattle.std.specs.Prelude.{◌≡◌, ◌<◌, IfOk, ◌/◌, ◌%◌, ◌^◌};
+ghost use Rattle.nova_range.specs.RangeWords.{HasWord, type_of, meaning_of, word_of};
 
 use crate::range::{Kind, Range};
 use crate::rights::Rights;
@@ -20,7 +20,7 @@ pub enum WordFault {
 fn bits(word: u32, low: u32, count: u32) -> u32
     requires low { low < 32 }
     requires count { count < 32 }
-    ensures { result ≡ bits_of word low count }
+    ensures { result ≡ word / 2 ^ low % 2 ^ count }
 {
     (word >> low) % (1 << count)
 }

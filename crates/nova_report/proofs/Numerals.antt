@@ -1,26 +1,12 @@
 -- What `{:08x}` and `{:02x}` write, and how many digits numbers have.
-use Rattle.std.proofs.Common.{◌≡◌, ◌∙◌, refl, sym, ap, ℕ, zero, suc, ◌+◌, ◌-◌, ◌/◌, ◌%◌, ◌^◌, ◌<◌, ◌≤◌, Bool, true, false, ◌&&◌, List, [], ◌∷◌, ◌++◌, length, replicate, arith}
+use Rattle.std.proofs.Common.{◌≡◌, ◌∙◌, refl, sym, ap, ℕ, zero, suc, ◌+◌, ◌-◌, ◌/◌, ◌%◌, ◌^◌, ◌<◌, ◌≤◌, Bool, true, false, List, [], ◌∷◌, ◌++◌, length, replicate, arith}
 use Rattle.std.specs.Prelude.{◌==◌, nat_eq, nat_lt, if◌then◌else◌}
 use Rattle.std.specs.Fmt.{decimal, digits, digits_onto, digit_glyph, padded_integral, char_count, format_spec}
 use Rattle.std.proofs.lemmas.Bool.Decides.{nat_tests}
 use Rattle.std.proofs.lemmas.Fmt.{length-decimal-le}
 use Rattle.std.proofs.lemmas.List.{append_assoc, append-nil, replicate_more}
+use Rattle.nova_text.proofs.Below.{each_below}
 use Rattle.nova_report.specs.Words.{digit, hexadecimal}
-
--- a test that all numbers below a bound pass
-abbrev all_below : (ℕ → Bool) → ℕ → Bool
-all_below p zero = true
-all_below p (suc n) = p n && all_below p n
-
-each_below : (p : ℕ → Bool) (n r : ℕ) → all_below p n ≡ true → r < n → p r ≡ true
-each_below p zero r all less = absurd (omega arith)
-each_below p (suc n) r all less = go (nat_eq r n) refl (each_below p n r tail) where
-  tail : all_below p n ≡ true
-  tail = grind arith
-
-  go : (b : Bool) → nat_eq r n ≡ b → (r < n → p r ≡ true) → p r ≡ true
-  go true is rest = let same : r ≡ n = grind (arith, nat_tests) in grind arith
-  go false is rest = rest (grind (arith, nat_tests))
 
 digit_is : (d : ℕ) → d < 16 → digit_glyph false d ≡ digit d
 digit_is d less = let e : nat_eq (digit_glyph false d) (digit d) ≡ true = each_below (λ k. nat_eq (digit_glyph false k) (digit k)) 16 d refl less in grind (arith, nat_tests)

@@ -6,11 +6,12 @@ use Rattle.std.proofs.lemmas.List.Elements.{Contains-append_left, Contains-push}
 use Rattle.nova_model.specs.State.{KernelState}
 use Rattle.nova_model.specs.Runs.{after}
 use Rattle.nova_compare.specs.Steps.{IsSuccessor}
+use Rattle.nova_compare.proofs.Places.{place}
 use Rattle.nova_search.specs.declared.edges.Edge.{Edge}
 use Rattle.nova_search.specs.declared.found.Found.{Found}
 use Rattle.nova_search.specs.Edges.{AreTried, AreUpTo, Extends, IsAt, IsEdge, IsLed, IsTried, edge}
 use Rattle.nova_search.specs.Searches.{Grows, IsMore, IsVisited, state_at, state_of, states_of}
-use Rattle.nova_search.proofs.Growth.{at_front, grows_by, place, stays_at, still_at}
+use Rattle.nova_search.proofs.Growth.{at_front, grows_by, stays_at, still_at}
 
 pub longer : (xs ys : List KernelState) (turns : ℕ) → Grows xs ys turns → length xs ≤ length ys
 longer xs ys turns grows = let whole = ap length grows.whole in let sum = length-append xs grows.more in omega (arith, whole, sum)

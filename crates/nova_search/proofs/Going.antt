@@ -6,6 +6,7 @@ use Rattle.std.proofs.lemmas.List.{length-map}
 use Rattle.nova_model.specs.Choice.{is_quiet}
 use Rattle.nova_model.specs.State.{KernelState}
 use Rattle.nova_model.specs.Turn.{turn}
+use Rattle.nova_compare.proofs.Places.{place}
 use Rattle.nova_search.specs.declared.edges.Edge.{Edge}
 use Rattle.nova_search.specs.declared.exploring.Course.{Course}
 use Rattle.nova_search.specs.declared.found.Found.{Found}
@@ -15,7 +16,7 @@ use Rattle.nova_search.specs.Reductions.{IsStill}
 use Rattle.nova_search.specs.Searches.{AreLinked, AreVisited, IsFirst, IsFirstAt, state_at, state_of, states_of}
 use Rattle.nova_search.proofs.Closed.{all_led, all_within}
 use Rattle.nova_search.proofs.Drawn.{all_tried_on}
-use Rattle.nova_search.proofs.Growth.{cpus_here, left_here, place, states_many, still_at, underway_first, underway_here}
+use Rattle.nova_search.proofs.Growth.{cpus_here, left_here, states_many, still_at, underway_first, underway_here}
 use Rattle.nova_search.proofs.Nearest.{by_turns_first, by_turns_left, by_turns_on, nearest}
 use Rattle.nova_search.proofs.Reducing.{idle_still}
 

@@ -1,6 +1,6 @@
 -- What stays where states are found behind those that were.
 use Rattle.std.proofs.Common.{◌≡◌, ℕ, zero, suc, ◌+◌, ◌<◌, ◌≤◌, List, [], ◌∷◌, ◌++◌, length, refl, ap, sym, subst, ◌∙◌, append_assoc, arith, inl, inr}
-use Rattle.std.specs.Prelude.{◌⊎◌, Option, Some, None, Bool, true, false, nat_lt, slice_index_or, Contains, All}
+use Rattle.std.specs.Prelude.{◌⊎◌, Option, Some, None, Bool, true, false, slice_index_or, Contains, All}
 use Rattle.std.proofs.lemmas.List.{append-nil, get_or-map, length-append, length-map, map-append}
 use Rattle.std.proofs.lemmas.List.Elements.{All-cons, All-contains, All-nil, All-push, Contains-append_left, Contains-get_or}
 use Rattle.std.specs.Bool.{OnTrue}
@@ -12,14 +12,6 @@ use Rattle.nova_search.specs.declared.found.Found.{Found}
 use Rattle.nova_search.specs.Reductions.{IsStill}
 use Rattle.nova_search.specs.Searches.{AreVisited, Grows, IsExpanded, IsMore, IsReached, IsUnderWay, IsVisited, Keeps, state_at, state_of, states_of}
 use Rattle.nova_search.proofs.Ways.{begun, goes_on}
-
--- a place is before the last one, or the last
-pub place : (i n : ℕ) → i < n + 1 → (i < n) ⊎ (i ≡ n)
-place i n less = by_test (nat_lt i n) refl
-  where
-    by_test : (t : Bool) → nat_lt i n ≡ t → (i < n) ⊎ (i ≡ n)
-    by_test true is = inl (grind (arith, is))
-    by_test false is = inr (grind (arith, is, less))
 
 pub same_grows : (xs : List KernelState) (turns : ℕ) → Grows xs xs turns
 same_grows xs turns = record { more = []; whole = sym (append-nil xs); taken = tt }

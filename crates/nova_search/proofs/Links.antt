@@ -5,9 +5,10 @@ use Rattle.std.proofs.lemmas.List.{length-map, map-append, reverse-append}
 use Rattle.nova_model.specs.State.{KernelState}
 use Rattle.nova_model.specs.Runs.{IsFreeOfIdle, run}
 use Rattle.nova_compare.specs.Steps.{IsSuccessor}
+use Rattle.nova_compare.proofs.Places.{place}
 use Rattle.nova_search.specs.declared.found.Found.{Found}
 use Rattle.nova_search.specs.Searches.{AreLinked, AreProcessors, IsLink, IsMore, IsWay, state_at, state_of, states_of}
-use Rattle.nova_search.proofs.Growth.{any_default, at_front, place, state_here}
+use Rattle.nova_search.proofs.Growth.{any_default, at_front, state_here}
 
 at_end : (xs : List Found) (f d : Found) → slice_index_or (xs ++ f ∷ []) (length xs) d ≡ f
 at_end [] f d = refl

@@ -5,6 +5,7 @@ use Rattle.nova_model.specs.State.{KernelState}
 use Rattle.nova_model.specs.Turn.{turn}
 use Rattle.nova_model.specs.Runs.{IsFreeOfIdle, after, run}
 use Rattle.nova_compare.specs.Steps.{IsSuccessor}
+use Rattle.std.proofs.lemmas.List.{take_more}
 use Rattle.nova_search.specs.Searches.{AreProcessors, IsAlong, IsReached, IsWay}
 
 run_more : (k : KernelState) (order : List ℕ) (cpu : ℕ) → run k (order ++ cpu ∷ []) ≡ after (run k order) cpu
@@ -37,13 +38,6 @@ way_on k s t order cpu way cpus is next = record {
 pub along_none : (k s : KernelState) → s ≡ k → IsAlong k s []
 along_none k s same = subst (λ (x : KernelState). IsAlong k x []) (sym same) (record { way = record { processors = tt; no_idle = tt; state = refl; turns = omega arith }; cpus = refl })
 
-take_on : (xs : List ℕ) (i : ℕ) → i < length xs → take (i + 1) xs ≡ take i xs ++ slice_index_or xs i 0 ∷ []
-take_on [] i less = absurd (omega (arith, less))
-take_on (y ∷ xs) zero less = refl
-take_on (y ∷ xs) (suc i) less =
-    let e : suc i + 1 ≡ suc (i + 1) = omega arith in
-    ap (λ (n : ℕ). take n (y ∷ xs)) e ∙ ap (λ (l : List ℕ). y ∷ l) (take_on xs i (omega (arith, less)))
-
 take_whole : (xs : List ℕ) (n : ℕ) → length xs ≤ n → take n xs ≡ xs
 take_whole [] zero most = refl
 take_whole [] (suc n) most = refl
@@ -52,7 +46,7 @@ take_whole (x ∷ xs) (suc n) most = ap (λ (l : List ℕ). x ∷ l) (take_whole
 
 pub along_on : (k s t : KernelState) (order : List ℕ) (i : ℕ) → IsAlong k s (take i order) → i < length order → slice_index_or order i 0 < k.cpus →
     IsSuccessor s (slice_index_or order i 0) t → IsAlong k t (take (i + 1) order)
-along_on k s t order i along less there next = let cpu = slice_index_or order i 0 in subst (λ (o : List ℕ). IsAlong k t o) (sym (take_on order i less)) (record {
+along_on k s t order i along less there next = let cpu = slice_index_or order i 0 in subst (λ (o : List ℕ). IsAlong k t o) (sym (take_more order i 0 less)) (record {
   way = way_on k s t (take i order) cpu along.way along.cpus (subst (λ (n : ℕ). cpu < n) (sym along.cpus) there) next;
   cpus = next.cpus ∙ along.cpus;
 })

@@ -1,3 +1,2 @@
 pub mod Queues
-pub mod Ranges
 pub mod Verdicts

@@ -1,10 +1,9 @@
 -- What is told of a run, line by line.
-use Rattle.std.specs.Prelude.{ℕ, ◌+◌, ◌-◌, ◌%◌, List, [], ◌++◌, codes, decimal, flat_map, length, min, Option, Some, None, slice_get, drop, take}
+use Rattle.std.specs.Prelude.{ℕ, ◌+◌, ◌-◌, ◌%◌, List, [], ◌++◌, codes, decimal, flat_map, length, min, Option, Some, None, slice_get, drop, take, option_map}
 use Rattle.std.specs.List.{enumerate_from, range_with_len}
 use Rattle.nova_model.specs.State.{KernelState, context_at, entry}
 use Rattle.nova_model.specs.Semaphores.{semaphore}
 use Rattle.nova_model.specs.declared.context.EcState.{EcState}
-use Rattle.nova_model.specs.declared.context.Mark.{Mark}
 use Rattle.nova_model.specs.declared.context.State.{State}
 use Rattle.nova_model.specs.declared.context.State.TheVariants.{Calling, Helping, Sending, Blocked}
 use Rattle.nova_model.specs.declared.event.Event.{Event}
@@ -19,6 +18,7 @@ use Rattle.nova_recording.specs.Recordings.{RecordingView, at_turn}
 use Rattle.nova_recording.specs.Wants.{next_by}
 use Rattle.nova_recording.specs.declared.preview.Access.{Access}
 use Rattle.nova_recording.specs.declared.wants.Next.{Next}
+use Rattle.nova_model.specs.declared.context.Mark.{Mark}
 use Rattle.nova_telling.specs.Slices.{slices_text}
 use Rattle.nova_telling.specs.declared.reading.Reading.{Reading}
 use Rattle.nova_telling.specs.declared.reading.Reading.TheVariants.{Place, Instruction, Contexts, Semaphores, Consoles, Delegations, Objects, Words, Frame, Events, Slices, Queue}
@@ -63,12 +63,8 @@ awaited (Blocked sm) = Some sm
 awaited other = None
 
 -- the caller that it serves
-abbrev pub caller_in : Option (ℕ × Mark) → Option ℕ
-caller_in (Some (caller, mark)) = Some caller
-caller_in None = None
-
 abbrev pub caller_of : EcState → Option ℕ
-caller_of x = caller_in x.caller
+caller_of x = option_map (λ (c : ℕ × Mark). c.0) x.caller
 
 -- of an execution context its domain, its processor, its caller and what it waits for
 abbrev pub context_line : ℕ → ℕ → ℕ → Option EcState → List ℕ

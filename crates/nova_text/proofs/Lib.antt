@@ -4,3 +4,4 @@ pub mod Scans
 pub mod SliceLemmas
 pub mod TextLemmas
 pub mod TokenLemmas
+pub mod Below

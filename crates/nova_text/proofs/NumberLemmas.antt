@@ -55,7 +55,7 @@ module _ (radix : ℕ) (bound : radix ≤ 36) where
       rw is (parsed ds r (grind arith, digits) (rw (numeral-unsigned ds is) at parses))
 
 -- what std takes for decimal digits are digits
-all-digits : (ds : List ℕ) → AllDigits 10 ds → list_all (λ c. is_digit c 10) ds ≡ true
+pub all-digits : (ds : List ℕ) → AllDigits 10 ds → list_all (λ c. is_digit c 10) ds ≡ true
 all-digits [] all = refl
 all-digits (d ∷ ds) all = grind (arith, all-digits ds all.1)
 

@@ -60,7 +60,7 @@ fn line_len(bytes: &[u8]) -> usize
 }
 
 /// How many separators stand in front in `bytes`.
-pub(crate) fn gap_len(bytes: &[u8]) -> usize
+pub fn gap_len(bytes: &[u8]) -> usize
     ensures len { result ≡ position_or_len (λ b. not (is_separator b)) bytes.now }
     ensures within { result ≤ length bytes.now }
 {

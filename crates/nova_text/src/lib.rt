@@ -12,7 +12,7 @@ mod lines;
 mod number;
 mod span;
 
-pub use bytes::{before_comment, has_forbidden, is_separator};
+pub use bytes::{before_comment, gap_len, has_forbidden, is_separator};
 pub use line::{Line, Token};
 pub use lines::Lines;
 pub use number::{NumberError, NumberFault, parse_digits, parse_number, read_number};

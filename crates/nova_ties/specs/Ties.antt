@@ -60,3 +60,17 @@ met labels t =
 unfoldable pub settled : List Tie → List ℕ → List ℕ × Option Tie
 settled [] labels = (labels, None)
 settled (t ∷ ties) labels = if is_met labels t then settled ties (met labels t) else (labels, Some t)
+
+-- IN A TABLE OF LABELS
+
+abbrev pub has_label : ℕ → ℕ → Bool
+has_label label other = other == label
+
+-- a label of another side
+abbrev pub is_another : ℕ → ℕ → Bool
+is_another label other = not (other == 0) && not (other == label)
+
+-- it is there, and it is this number
+abbrev pub is_place : ℕ → Option ℕ → Bool
+is_place n None = false
+is_place n (Some place) = place == n

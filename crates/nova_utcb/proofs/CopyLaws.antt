@@ -7,7 +7,7 @@ use Rattle.nova_utcb.proofs.Ruled.{length_ruled, get_ruled, get_kept, get_below,
 pub kept : (m : List ℕ) (i : ℕ) → has_counts m ≡ true → i < items m → (is_given m (range_place i) ≡ false) × (is_given m (second_place i) ≡ false)
 kept m i has within = (grind (arith, nat_tests), grind (arith, nat_tests))
 
-abbrev rule : List ℕ → ℕ → ℕ → ℕ
+abbrev pub rule : List ℕ → ℕ → ℕ → ℕ
 rule from i other = if is_given from i then word from i else other
 
 pub given : (from to : List ℕ) (i : ℕ) → IsMessage to → i < 128 → is_given from i ≡ true → word (copied from to) i ≡ word from i

@@ -1,10 +1,7 @@
 -- Loads and stores of the page by its bytes.
-use Rattle.std.specs.Prelude.{◌≡◌, ◌<◌, ◌⊎◌, ℕ, zero, suc, ◌+◌, ◌*◌, ◌/◌, ◌%◌, ◌^◌, List}
+use Rattle.std.specs.Prelude.{◌≡◌, ◌<◌, ℕ, zero, suc, ◌+◌, ◌*◌, ◌/◌, ◌%◌, ◌^◌, List}
+pub use Rattle.rv_model.specs.Step.{IsWidth}
 use Rattle.nova_utcb.specs.Messages.{byte_at}
-
--- how many bytes a load or a store goes over
-abbrev pub IsWidth : ℕ → Type 0
-IsWidth width = (width ≡ 1) ⊎ ((width ≡ 2) ⊎ (width ≡ 4))
 
 -- a load or a store that lies within one of the words
 pub record IsAccess (offset width : ℕ) : Type 0 where

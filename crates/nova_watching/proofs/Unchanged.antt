@@ -43,7 +43,8 @@ use Rattle.nova_naming.specs.Statements.{Stated}
 use Rattle.nova_sides.specs.Among.{flows_in}
 use Rattle.nova_judging.specs.Answers.{AreFinest, ties_beside}
 use Rattle.nova_judging.specs.Labelled.{flows_between, labelled, labels_of, shared_by}
-use Rattle.nova_watching.specs.Watched.{AreIsolatedBy, IsKnown, is_plain, is_plain_kind, trusted_root}
+use Rattle.nova_report.specs.Report.{is_silent}
+use Rattle.nova_watching.specs.Watched.{AreIsolatedBy, IsKnown, is_plain, trusted_root}
 
 -- what ties read of an execution context
 abbrev Front : Type 0
@@ -239,7 +240,7 @@ steps_fronts : (cs : Contexts) (ec n : ℕ) (o : Once) → is_some (ec_in cs ec)
 steps_fronts cs ec n (Raised reason q0 q1) there = refl
 steps_fronts cs ec n (Went regs store) there = fronts_with cs ec n regs there
 
-plain_deed : (d : Deed) → is_plain_kind (sign_of d).0 ≡ true → (d ≡ Steps) ⊎ (d ≡ Rests)
+plain_deed : (d : Deed) → is_silent (sign_of d).0 ≡ true → (d ≡ Steps) ⊎ (d ≡ Rests)
 plain_deed Steps is = inl refl
 plain_deed Rests is = inr refl
 plain_deed (Finishes item (Given children) words next) is = absurd (cc)
@@ -266,14 +267,14 @@ acting_same k cpu c next d is (inr rests) =
       fronts = λ n. subst (λ (e : Deed). front (ec_in (applied k (effect k c.actor e)).contexts n) ≡ front (context_at k n)) does refl;
     }
 
-turning_same : (k : KernelState) (cpu : ℕ) (t : Turning) (e : Event) → IsTurning k cpu t e → is_plain_kind e.kind ≡ true → AreSame k (turned k cpu t)
+turning_same : (k : KernelState) (cpu : ℕ) (t : Turning) (e : Event) → IsTurning k cpu t e → is_silent e.kind ≡ true → AreSame k (turned k cpu t)
 turning_same k cpu t e (Acts c next at event) plain =
     subst (λ (u : Turning). AreSame k (turned k cpu u)) (sym at)
-    (acting_same k cpu c next (deed k c.actor) refl (plain_deed (deed k c.actor) (sym (ap (λ (f : Event). is_plain_kind f.kind) event) ∙ plain)))
+    (acting_same k cpu c next (deed k c.actor) refl (plain_deed (deed k c.actor) (sym (ap (λ (f : Event). is_silent f.kind) event) ∙ plain)))
 turning_same k cpu t e (Passes Ticks due at event) plain =
     subst (λ (u : Turning). AreSame k (turned k cpu u)) (sym at) (record { list = refl; objects = refl; fronts = λ n. refl })
-turning_same k cpu t e (Passes (Falls (due.Alarm alarm)) due_ at event) plain = absurd (let both = sym (ap (λ (f : Event). is_plain_kind f.kind) event) ∙ plain in cc)
-turning_same k cpu t e (Passes (Falls (due.Deadline ec)) due_ at event) plain = absurd (let both = sym (ap (λ (f : Event). is_plain_kind f.kind) event) ∙ plain in cc)
+turning_same k cpu t e (Passes (Falls (due.Alarm alarm)) due_ at event) plain = absurd (let both = sym (ap (λ (f : Event). is_silent f.kind) event) ∙ plain in cc)
+turning_same k cpu t e (Passes (Falls (due.Deadline ec)) due_ at event) plain = absurd (let both = sym (ap (λ (f : Event). is_silent f.kind) event) ∙ plain in cc)
 
 pub plain_same : (k : KernelState) (cpu : ℕ) (t : Turn) → t ≡ answer_of (turn k cpu) → is_plain t ≡ true → AreSame k (after k cpu)
 plain_same k cpu t is plain = elim (comes k cpu) [

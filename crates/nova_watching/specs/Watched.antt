@@ -2,8 +2,6 @@
 use Rattle.std.specs.Prelude.{◌≡◌, ℕ, ◌+◌, ◌≤◌, Bool, true, false, List, [], ◌∷◌, ◌++◌, length, Option, Some, None, string_bytes}
 use Rattle.nova_model.specs.Runs.{after, run}
 use Rattle.nova_model.specs.State.{KernelState}
-use Rattle.nova_model.specs.declared.event.EventKind.{EventKind}
-use Rattle.nova_model.specs.declared.event.EventKind.TheVariants.{Step, Tick}
 use Rattle.nova_model.specs.declared.event.Turn.{Turn}
 use Rattle.nova_model.specs.declared.event.Turn.TheVariants.{Idle, Stepped}
 use Rattle.nova_ties.specs.Ties.{label_in}
@@ -14,6 +12,7 @@ use Rattle.nova_judging.specs.Labelled.{flows_between, labels_of, shared_by}
 use Rattle.nova_judging.specs.declared.answer.Answer.{Answer}
 use Rattle.nova_judging.specs.declared.answer.Answer.TheVariants.{Breach, Stuck}
 use Rattle.nova_judging.specs.declared.answer.Told.{Told}
+use Rattle.nova_report.specs.Report.{is_silent}
 
 -- the policy that trusts the root's domain alone, and names no side
 abbrev pub trusted_root : List Stated
@@ -68,14 +67,8 @@ IsToldFrom policy from k n (Some t) = (from ≤ n) × (IsTold policy k t.answer 
 
 -- THE SAME TIES
 
--- what comes of one instruction, or of the clock alone
-abbrev pub is_plain_kind : EventKind → Bool
-is_plain_kind Step = true
-is_plain_kind Tick = true
-is_plain_kind other = false
-
 abbrev pub is_plain : Turn → Bool
-is_plain (Stepped e) = is_plain_kind e.kind
+is_plain (Stepped e) = is_silent e.kind
 is_plain Idle = false
 
 -- it is known that the sides are isolated in a state, or it isn't

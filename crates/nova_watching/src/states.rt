@@ -1,7 +1,8 @@
 ghost use Rattle.std.specs.Prelude.{◌≡◌, ◌&&◌, ◌+◌, ◌<◌, ◌≤◌, ◌^◌, ◌∷◌, [], IfOk, IsTrue, OnOk, replicate};
 ghost use Rattle.nova_order.specs.Blocks.{is_within, total, turns};
 ghost use Rattle.nova_model.specs.Runs.{after};
-ghost use Rattle.nova_watching.specs.Watched.{IsKnown, IsWatched, is_plain, is_plain_kind};
+ghost use Rattle.nova_report.specs.Report.{is_silent};
+ghost use Rattle.nova_watching.specs.Watched.{IsKnown, IsWatched, is_plain};
 
 use crate::telling::told_from;
 use nova_judging::Told;
@@ -11,7 +12,7 @@ use nova_order::{Block, Order};
 use std::alloc::{AllocError, Global};
 
 fn is_plain_kind(kind: EventKind) -> bool
-    ensures { result ≡ is_plain_kind kind }
+    ensures { result ≡ is_silent kind }
 {
     matches!(kind, EventKind::Step | EventKind::Tick)
 }

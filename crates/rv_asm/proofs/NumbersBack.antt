@@ -1,5 +1,5 @@
 -- The texts of registers and numbers are read as what they write.
-use Rattle.std.proofs.Common.{◌≡◌, ◌⊎◌, inl, inr, ℕ, zero, suc, ◌-◌, ◌*◌, ◌/◌, ◌%◌, ◌^◌, ◌==◌, ◌<◌, ◌≤◌, lit<, lit≤, Bool, true, false, ◌&&◌, List, [], ◌∷◌, ◌++◌, length, Option, Some, None, Ok, refl, ap, ◌∙◌, arith}
+use Rattle.std.proofs.Common.{◌≡◌, ◌⊎◌, inl, inr, ℕ, ◌-◌, ◌*◌, ◌/◌, ◌%◌, ◌^◌, ◌==◌, ◌<◌, ◌≤◌, lit<, lit≤, Bool, true, false, ◌&&◌, List, [], ◌∷◌, ◌++◌, length, Option, Some, None, Ok, refl, ap, ◌∙◌, arith}
 use Rattle.std.specs.Prelude.{nat_eq, nat_lt, codes, if◌then◌else◌}
 use Rattle.std.specs.Char.{is_digit, digit_value}
 use Rattle.std.specs.Fmt.{decimal, digits}
@@ -10,26 +10,12 @@ use Rattle.std.proofs.lemmas.Fmt.{decimal_is_IsNumeral, digits_is_IsNumeral}
 use Rattle.rv_model.specs.Words.{minus}
 use Rattle.nova_text.specs.Number.{number, numeral, u32_of}
 use Rattle.nova_text.proofs.NumberLemmas.{number-decimal}
+use Rattle.nova_text.proofs.Below.{all_below, each_below}
 use Rattle.rv_asm.specs.Syntax.{is_name, begins_name}
 use Rattle.rv_asm.specs.Register.{number_named}
 use Rattle.rv_asm.specs.Operand.{limited, sized, negated, is_negative, number_in, shifted, is_odd, unsigned, target_in, Labels}
 use Rattle.rv_asm.specs.Printed.{register_text, signed_text, upper_text}
 use Rattle.rv_asm.proofs.Ranges.{IsWithin}
-
--- a test that all numbers below a bound pass
-abbrev all_below : (ℕ → Bool) → ℕ → Bool
-all_below p zero = true
-all_below p (suc n) = p n && all_below p n
-
-each_below : (p : ℕ → Bool) (n r : ℕ) → all_below p n ≡ true → r < n → p r ≡ true
-each_below p zero r all less = absurd (omega arith)
-each_below p (suc n) r all less = go (nat_eq r n) refl (each_below p n r tail) where
-  tail : all_below p n ≡ true
-  tail = grind arith
-
-  go : (b : Bool) → nat_eq r n ≡ b → (r < n → p r ≡ true) → p r ≡ true
-  go true is rest = let same : r ≡ n = grind (arith, nat_tests) in grind arith
-  go false is rest = rest (grind (arith, nat_tests))
 
 -- registers
 abbrev is_register : ℕ → Option ℕ → Bool

@@ -3,10 +3,10 @@ ghost use Rattle.std.specs.List.{position_or_len, list_all};
 ghost use Rattle.nova_text.specs.Line.{row_of, piece_of_row};
 ghost use Rattle.nova_text.specs.Token.{piece_of, tokens_left};
 ghost use Rattle.nova_text.specs.Bytes.{before_comment};
-ghost use Rattle.rv_asm.specs.Syntax.{continues_name, begins_name, is_name, is_comma, gap, name_len, without_gap, label_in, labelled, last_end, operand_of, separated, operands_in, written};
+ghost use Rattle.rv_asm.specs.Syntax.{continues_name, begins_name, is_name, is_comma, name_len, without_gap, label_in, labelled, last_end, operand_of, separated, operands_in, written};
 ghost use Rattle.rv_asm.specs.Shown.{label_seen, labelled_of, operand_seen, written_of, parts_left, left_len};
 
-use nova_text::{Line, Span, Token, before_comment, is_separator};
+use nova_text::{Line, Span, Token, before_comment, gap_len, is_separator};
 use std::alloc::{AllocError, Global};
 
 /// An operand without the separators around it.
@@ -53,17 +53,6 @@ pub fn is_name(text: &[u8]) -> bool
         [first, rest @ ..] => begins_name(*first) && all_continue(rest),
         [] => false,
     }
-}
-
-/// How many separators stand in front in the bytes.
-fn gap_len(bytes: &[u8]) -> usize
-    ensures len { result ≡ gap bytes.now }
-    ensures within { result ≤ length bytes.now }
-{
-    bytes
-        .iter()
-        .position(|&byte| !is_separator(byte))
-        .unwrap_or(bytes.len())
 }
 
 /// How many bytes in front may stand in a name.

@@ -1,6 +1,6 @@
 -- One instruction over registers and an address space: the first raise that holds, or the next registers and at most one store.
 -- (RV32I, "Integer Computational Instructions", "Control Transfer Instructions", "Load and Store Instructions".)
-use Rattle.std.specs.Prelude.{ℕ, ◌*◌, ◌/◌, ◌%◌, ◌^◌, ◌==◌, Bool, true, false, not, nat_lt, nat_le, bit_and, Option, Some, None, if◌then◌else◌}
+use Rattle.std.specs.Prelude.{ℕ, ◌*◌, ◌/◌, ◌%◌, ◌^◌, ◌==◌, Bool, true, false, not, nat_lt, nat_le, bit_and, Option, Some, None, if◌then◌else◌, ◌≡◌, ◌⊎◌}
 use Rattle.std.specs.Int.{w32, cast_signed, cast_unsigned, int_shr}
 use Rattle.std.specs.Int.RustNames.{bit_or, bit_xor}
 use Rattle.std.specs.Int.Signed.{lt_z}
@@ -31,6 +31,10 @@ environment_call = 6
 
 abbrev pub breakpoint : ℕ
 breakpoint = 7
+
+-- how many bytes a load or a store goes over
+abbrev pub IsWidth : ℕ → Type 0
+IsWidth width = (width ≡ 1) ⊎ ((width ≡ 2) ⊎ (width ≡ 4))
 
 -- an address space: the word to fetch at an address, the number to load of a width (1, 2 or 4 bytes), or nothing; and whether
 -- a store of a width is taken

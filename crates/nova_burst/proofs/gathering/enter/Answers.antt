@@ -1,10 +1,10 @@
 use Rattle.std.proofs.Common.{rules, ◌≡◌, ◌<◌, ◌≤◌, length, sym, subst}
 use Rattle.std.specs.Prelude.{false, IsSome, is_some}
 use Rattle.law_leases.specs.Leases.{copy_at}
+use Rattle.law_leases.proofs.Leasing.{none_copied}
 use Rattle.nova_burst.specs.Copies.{CopiesState}
 use Rattle.nova_burst.specs.Gathered.{HaveGrownBy}
 use Rattle.nova_burst.proofs.Grown.{copied_entered, entered, full_before}
-use Rattle.nova_burst.proofs.Lists.{none_of}
 use Rattle.nova_burst.proofs.gathering.enter.Goals as goal
 
 pub returns-then-has : goal.returns-then-has
@@ -27,8 +27,8 @@ returns c =
     let none : is_some (copy_at old.pages c.args.known.frame) ≡ false = search rules in
     let few : length old.pages < c.args.most = search rules in
     subst (λ (s : CopiesState). HaveGrownBy k c.args.pd c.args.most c.args.known.page old s) (sym c.in_ok-know-2.ensures)
-    (copied_entered k c.args.pd c.args.most old c.copy_frame.new.copies c.args.known c.requires.leads c.requires.new (none_of (copy_at old.pages c.args.known.frame) none) few c.in_ok-copy_frame.ensures)
+    (copied_entered k c.args.pd c.args.most old c.copy_frame.new.copies c.args.known c.requires.leads c.requires.new (none_copied (copy_at old.pages c.args.known.frame) none) few c.in_ok-copy_frame.ensures)
 
 pub copy_frame-requires-clause-free : goal.copy_frame-requires-clause-free
 copy_frame-requires-clause-free c =
-    let none : is_some (copy_at c.args.copies.now.pages c.args.known.frame) ≡ false = search rules in none_of (copy_at c.args.copies.now.pages c.args.known.frame) none
+    let none : is_some (copy_at c.args.copies.now.pages c.args.known.frame) ≡ false = search rules in none_copied (copy_at c.args.copies.now.pages c.args.known.frame) none

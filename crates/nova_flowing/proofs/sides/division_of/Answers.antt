@@ -1,6 +1,7 @@
 use Rattle.std.proofs.Common.{rules, ◌≡◌, ◌∙◌, List, Bool, length, ap, ap₂, arith}
 use Rattle.std.specs.List.{enumerate_from}
-use Rattle.nova_flowing.specs.Tables.{home_table, is_another, is_label, is_part, own_table, part_table}
+use Rattle.nova_ties.specs.Ties.{is_another}
+use Rattle.nova_flowing.specs.Tables.{home_table, is_label, is_part, own_table, part_table}
 use Rattle.nova_flowing.specs.Tests.{is_in}
 use Rattle.nova_flowing.proofs.Numbered.{mapped_length, numbered_length}
 use Rattle.nova_flowing.proofs.sides.division_of.Goals as goal

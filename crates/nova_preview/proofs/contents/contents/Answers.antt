@@ -1,5 +1,6 @@
 use Rattle.std.proofs.Common.{rules, arith, ◌≡◌, ◌<◌, ◌^◌, ◌++◌, drop, length, take}
-use Rattle.nova_preview.proofs.Frames.{concat_more, frame_at, has_bytes, on_err}
+use Rattle.nova_nodes.proofs.Rooms.{on_err}
+use Rattle.nova_preview.proofs.Frames.{concat_more, frame_at, has_bytes}
 use Rattle.nova_preview.proofs.contents.contents.Goals as goal
 
 pub returns-in_err-extend_from_slice-clause-memory : goal.returns-in_err-extend_from_slice-clause-memory
