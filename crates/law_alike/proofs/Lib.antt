@@ -1,0 +1,10 @@
+pub mod Lists
+pub mod Deciding
+pub mod Late
+pub mod Moments
+pub mod Doing
+pub mod Passing
+pub mod Choosing
+pub mod Paying
+pub mod Given
+pub mod Turns

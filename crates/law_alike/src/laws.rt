@@ -1,0 +1,55 @@
+ghost use Rattle.std.specs.Prelude.{◌≡◌, ℕ, List};
+ghost use Rattle.nova_model.specs.Boot.{Scenario, boot};
+ghost use Rattle.nova_model.specs.Choice.{choose, is_quiet};
+ghost use Rattle.nova_model.specs.Runs.{after, run, trace};
+ghost use Rattle.nova_model.specs.State.{KernelState, Stirs};
+ghost use Rattle.nova_model.specs.Turn.{answer_of, turn};
+ghost use Rattle.law_turns.specs.Keeping.{IsKept};
+ghost use Rattle.law_alike.specs.Alike.{IsAlike, AreStampsGiven, TellNoTicks, TellsNoTicks};
+
+/// Each state is alike to itself, also with other counts of turns and stir counts; states are alike both ways, and what is alike to one state is alike
+/// to each other.
+pub fn alikeness_is_an_equivalence()
+    ensures reflexive { (k : KernelState) → IsAlike k k }
+    ensures counts { (k : KernelState) (turns : ℕ) (stirs : Stirs) → IsAlike k (record k { turns = turns; stirs = stirs }) }
+    ensures symmetric { (k l : KernelState) → IsAlike k l → IsAlike l k }
+    ensures transitive { (k l m : KernelState) → IsAlike k l → IsAlike l m → IsAlike k m }
+{}
+
+/// In alike states a processor chooses the same scheduling context, and its turn has the same event and leaves alike states, unless it tells ticks;
+/// and so it is with turns of any order. States after turns are alike where tables went with objects and stamps were below the next, as they are in
+/// whatever turns leave of a boot state, and after a turn where they were before: so what orders lead to may be taken for one where it is alike.
+pub fn alike_states_have_alike_turns()
+    ensures chosen { (k l : KernelState) (cpu : ℕ) → IsAlike k l → choose k cpu ≡ choose l cpu }
+    ensures events { (k l : KernelState) (cpu : ℕ) → IsAlike k l → TellsNoTicks k cpu → answer_of (turn k cpu) ≡ answer_of (turn l cpu) }
+    ensures turns { (k l : KernelState) (cpu : ℕ)
+        → IsKept k → IsKept l → AreStampsGiven k → AreStampsGiven l
+        → IsAlike k l → TellsNoTicks k cpu
+        → IsAlike (after k cpu) (after l cpu) }
+    ensures runs { (k l : KernelState) (order : List ℕ)
+        → IsKept k → IsKept l → AreStampsGiven k → AreStampsGiven l
+        → IsAlike k l → TellNoTicks k order
+        → IsAlike (run k order) (run l order) }
+    ensures traces { (k l : KernelState) (order : List ℕ)
+        → IsKept k → IsKept l → AreStampsGiven k → AreStampsGiven l
+        → IsAlike k l → TellNoTicks k order
+        → trace k order ≡ trace l order }
+    ensures orders { (a b : Scenario) (before since order : List ℕ)
+        → IsAlike (run (boot a) before) (run (boot b) since) → TellNoTicks (run (boot a) before) order
+        → IsAlike (run (run (boot a) before) order) (run (run (boot b) since) order)
+        × (trace (run (boot a) before) order ≡ trace (run (boot b) since) order) }
+    ensures given { (k : KernelState) (cpu : ℕ) → AreStampsGiven k → AreStampsGiven (after k cpu) }
+    ensures reached { (scenario : Scenario) (order : List ℕ) → AreStampsGiven (run (boot scenario) order) }
+{}
+
+/// What a kernel has come to is the same in alike states: execution contexts, message words, semaphores and their counters, objects and
+/// delegations, RAM, and what consoles got. Each is quiet exactly where the other is.
+pub fn alike_states_are_as_one()
+    ensures contexts { (k l : KernelState) → IsAlike k l → k.contexts ≡ l.contexts }
+    ensures words { (k l : KernelState) → IsAlike k l → k.messages ≡ l.messages }
+    ensures semaphores { (k l : KernelState) → IsAlike k l → k.semaphores ≡ l.semaphores }
+    ensures objects { (k l : KernelState) → IsAlike k l → k.objects ≡ l.objects }
+    ensures delegations { (k l : KernelState) → IsAlike k l → k.delegations ≡ l.delegations }
+    ensures memory { (k l : KernelState) → IsAlike k l → k.memory ≡ l.memory }
+    ensures quiet { (k l : KernelState) → IsAlike k l → is_quiet k ≡ is_quiet l }
+{}
