@@ -1,6 +1,6 @@
 """Two runs in which one side is the same: does its part of the reports stay the same?
 
-python3 tools/flow [--walled | --leak NAME | --leaks] [--program FILE] [--count N] [--first SEED] [--turns N] [--keep FOLDER]
+python3 tools/flow [--walled | --revokes | --leak NAME | --leaks] [--program FILE] [--count N] [--first SEED] [--turns N] [--keep FOLDER]
 """
 
 from __future__ import annotations
@@ -15,8 +15,8 @@ from pathlib import Path
 sys.path.insert(0, str(Path(__file__).resolve().parent))
 from leaks import LEAKS  # noqa: E402
 from parts import difference, free_part, part  # noqa: E402
-from premises import at_work, broken  # noqa: E402
-from scenarios import SOURCES, Attacker, Free, SetUp, Worker  # noqa: E402
+from premises import at_work, broken, revoking_within  # noqa: E402
+from scenarios import SOURCES, Attacker, Free, Reviser, SetUp, Worker  # noqa: E402
 
 Blocks = list[list[int]]  # a processor and how many turns it has, in order
 MADE = [[0, 400], [1, 400], [2, 330]]  # by then the root has made both sides and ended; the second side has just begun
@@ -81,25 +81,26 @@ def free_pair(program: Program, seed: int, turns: int) -> tuple[str | None, int]
     return difference(*parts), len(parts[0][0])
 
 
-def compared(program: Program, name: str, scenarios: list[str], places: list[Blocks], turns: int) -> tuple[set[str], str | None, int]:
+def compared(program: Program, name: str, scenarios: list[str], places: list[Blocks], turns: int, revokes: bool) -> tuple[set[str], str | None, int]:
     """Which premises fail at the places, how the side's parts differ at the ends, and how many events are compared. At the places the parts are to be the same."""
     premises: set[str] = set()
-    parts = []
+    reports, parts = [], []
     for other in (0, 1):
         blocks = orders(f"{name} {other}", places[other], turns)
         since = sum(count for _, count in places[other])
         place = program.report(f"{name}.{other}.place", scenarios[other], places[other])
         premises |= broken(place)
+        reports.append(place)
         parts.append((part(place, since), part(program.report(f"{name}.{other}", scenarios[other], blocks), since)))
     apart = difference(parts[0][0], parts[1][0])
     if apart:
         raise Trouble(f"{name}: the sides differ where they are to be compared: {apart}")
-    premises |= at_work(parts[0][1][0])
+    premises |= at_work(parts[0][1][0], revokes) | (revoking_within(reports) if revokes else set())
     return premises, difference(parts[0][1], parts[1][1]), len(parts[0][1][0])
 
 
-def walled_pair(program: Program, seed: int, turns: int) -> tuple[set[str], str | None, int]:
-    """A side at work on a processor of its own, with deadlines and a source, beside one that tries everything."""
+def walled_pair(program: Program, seed: int, turns: int, revokes: bool) -> tuple[set[str], str | None, int]:
+    """A side at work on a processor of its own, which revokes or not, with deadlines and a source, beside one that tries everything."""
     scenarios = []
     for other in (0, 1):
         first, second = random.Random(f"source {seed}"), random.Random(f"source {seed} {other}")
@@ -108,15 +109,16 @@ def walled_pair(program: Program, seed: int, turns: int) -> tuple[set[str], str 
             f"source 1 {first.choice([300, 450, 500])} {first.choice([1, 7, 40, 100])} 1000000",
             f"source 2 {second.choice([340, 500])} {second.choice([1, 2, 9, 50])} 1000000",
         )
-        scenarios.append(SetUp(walled=True, sources=sources).text([Worker(0, seed), Attacker(1, f"{seed} {other}")]))
-    return compared(program, f"walled.{seed}", scenarios, [MADE, MADE_BETWEEN if seed % 2 else MADE], turns)
+        side = Reviser(0, seed) if revokes else Worker(0, seed)
+        scenarios.append(SetUp(walled=True, sources=sources).text([side, Attacker(1, f"{seed} {other}")]))
+    return compared(program, f"walled.{seed}", scenarios, [MADE, MADE_BETWEEN if seed % 2 else MADE], turns, revokes)
 
 
-def tell_pairs(program: Program, walled: bool, first: int, count: int, turns: int) -> bool:
+def tell_pairs(program: Program, walled: bool, revokes: bool, first: int, count: int, turns: int) -> bool:
     same = different = events = 0
     for seed in range(first, first + count):
         if walled:
-            premises, differs, more = walled_pair(program, seed, turns)
+            premises, differs, more = walled_pair(program, seed, turns, revokes)
             if premises:
                 print(f"{seed}: these premises fail: {', '.join(sorted(premises))}")
                 return False
@@ -134,7 +136,7 @@ def tell_leak(program: Program, name: str, turns: int) -> bool:
     """Whether the premises that are to fail, and they alone, do, and the side differs."""
     leak = LEAKS[name]
     made = MADE if leak.first == 1 else MADE_OTHERWISE
-    premises, differs, _ = compared(program, f"leak.{name}", leak.pair(name), [made, made], turns)
+    premises, differs, _ = compared(program, f"leak.{name}", leak.pair(name), [made, made], turns, leak.revokes)
     print(f"{name}: {leak.tells}\n  without {', '.join(sorted(premises)) or 'nothing'}\n  {differs or 'no difference'}")
     return premises == leak.breaks and differs is not None
 
@@ -143,7 +145,7 @@ def tell(words: argparse.Namespace, program: Program) -> int:
     if words.leak or words.leaks:
         right = [tell_leak(program, name, words.turns) for name in ([words.leak] if words.leak else LEAKS)]
     else:
-        right = [tell_pairs(program, words.walled, words.first, words.count, words.turns)]
+        right = [tell_pairs(program, words.walled or words.revokes, words.revokes, words.first, words.count, words.turns)]
     return 0 if all(right) else 1
 
 
@@ -156,6 +158,7 @@ def main() -> int:
     parser.add_argument("--keep", type=Path, help="a folder for the scenarios and orders")
     what = parser.add_mutually_exclusive_group()
     what.add_argument("--walled", action="store_true", help="pairs that meet the premises of the law on divided processors")
+    what.add_argument("--revokes", action="store_true", help="such pairs, in which the side revokes, too")
     what.add_argument("--leak", choices=sorted(LEAKS), help="a pair that meets all premises but those of this leak")
     what.add_argument("--leaks", action="store_true", help="each of these")
     words = parser.parse_args()

@@ -34,6 +34,7 @@ RESTS = ["addi x0, x0, 0"]
 SPINS = [li(9, 170), "spin: addi x9, x9, -1", "bne x9, x0, spin"]  # longer than until the place where the runs are compared
 
 
+GIVES_ON = message([(word("mem", LENT_PAGE, 0, 1), COMMON[1] << 12 | 1)]) + call(0, 422, 0) + ["ebreak"]  # the root gives the page on to the other side
 ONE_MORE = call(6, 203, 0, 0) + ["ebreak"]  # the root makes a semaphore, when the side is there
 
 
@@ -57,7 +58,9 @@ class Taker(Fixed):
 class Giver(Fixed):
     """A side whose first handler gives a page to who calls it."""
 
-    gives = message([(word("mem", COMMON[1], 0, 1), LENT_PAGE << 12 | 1)])
+    def __init__(self, side: int, lines: list[str], once: list[str] | None = None) -> None:
+        super().__init__(side, lines, once)
+        self.gives = message([(word("mem", COMMON[side], 0, 1), LENT_PAGE << 12 | 1)])
 
 
 @dataclass(frozen=True)
@@ -73,6 +76,7 @@ class Leak:
     elsewhere: tuple[list[str], list[str]] = (["ebreak"], ["ebreak"])  # of the root, on the other side's processor
     first: int = 1  # the processor on which a side is made first
     handlers: tuple[type[Fixed], type[Fixed]] = (Fixed, Fixed)
+    revokes: bool = False  # whether the side may revoke
 
     def pair(self, name: str) -> list[str]:
         """The two scenarios."""
@@ -151,6 +155,14 @@ LEAKS = {
         frozenset({"IsClosed.capabilities", "IsSide.holds"}),
         SPINS + ["again:", "lui x5, 0xfffff", "sw x0, 0(x5)"] + call(0, SERVER, 0) + ["lw x10, 16(x5)", li(7, CONSOLE[0] * 4096), "sb x10, 0(x7)", "j again"],
         others=(RESTS, ["lui x5, 0xfffff", "sw x0, 0(x5)"] + call(0, SERVER, 0)),
+    ),
+    "derived": Leak(
+        "the side revokes a page of which others hold a part: how long that takes tells how many parts they made of it",
+        frozenset({"DerivesWithin"}),
+        SPINS + call(7, word("mem", COMMON[0], 0, 7), 0),
+        elsewhere=(["ebreak"], GIVES_ON),
+        handlers=(Giver, Taker),
+        revokes=True,
     ),
     "creates": Leak(
         "the side creates a semaphore, whose number tells how many objects there are",

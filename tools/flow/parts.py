@@ -31,13 +31,18 @@ def objects_of(domain: int, lines: list[list[str]]) -> set[int]:
     return set(made_for(domain, lines)) | ({3 + 1} - others) | own & semaphores
 
 
+def unnumbered(kind: str, a: str, b: str) -> list[str]:
+    """What an event tells but for numbers of ranges."""
+    return ["0" if kind in ("made", "gone") else a, "0" if kind == "made" else b]
+
+
 def part(report: str, since: int = 0) -> Part:
     """The events of processor 1 after so many turns, but for numbers of ranges, and what there is of the side that is made there: objects by number, ranges by what they give."""
     lines = [line.split() for line in report.splitlines()]
     domain = made_at(lines, 1)
     own = objects_of(domain, lines)
     events = [line[2:] for line in lines if line[0] == "at" and line[2] == "1" and int(line[1]) > since]
-    events = [[*event[:3], "0", "0"] if event[2] == "made" else event for event in events]
+    events = [[*event[:3], *unnumbered(*event[2:])] for event in events]
     rest = []
     for line in lines:
         if line[0] in ("ec", "sc", "sm") and int(line[1]) in own or line[:2] in (["source", "1"], ["console", "0"]):

@@ -46,6 +46,7 @@ class Capability:
         self.number, self.domain, self.kind = int(line[1]), int(line[3]), line[4]
         self.parent = None if line[2] == "-" else int(line[2])
         self.rights, self.target = int(line[7]), int(line[8])
+        self.held = tuple(line[4:])  # what it gives
         self.targets = range(self.target, self.target + 2 ** int(line[6]))
 
 
@@ -101,18 +102,40 @@ def of_processors(state: State) -> set[str]:
     return found
 
 
-CREATES = {"2", "3", "4", "5", "6", "7"}  # the creates and revoke
+CREATES, REVOKE = {"2", "3", "4", "5", "6"}, "7"
+GIVES = {"made", "skip", "xlat", "ended"}
 
 
-def at_work(events: list[list[str]]) -> set[str]:
-    """Whether these events of the side's processor are of a side that asks for no create and no revoke."""
-    found = set()
-    for event in events:
-        kind, a = event[2], event[3]
-        if kind == "gone":
-            found.add("IsAtWork.state")
-        if kind == "answer" and a in CREATES:
+def at_work(events: list[list[str]], revokes: bool = False) -> set[str]:
+    """Whether these events of the side's processor are of a side at work, that may revoke or not."""
+    found, amid = set(), set()  # who is amid a revoke
+    for _, context, kind, a, _ in events:
+        if kind == "answer" and (a in CREATES or a == REVOKE and not revokes):
             found.add("IsAtWork.calls")
+        if kind == "gone" and not revokes:
+            found.add("IsAtWork.revokes")
+        if kind in GIVES and amid - {context}:
+            found.add("IsAtWork.gives")
+        if kind == "begin" and a == REVOKE:
+            amid.add(context)
+        elif kind == "answer" and a == REVOKE:
+            amid.discard(context)
+    return found
+
+
+def revoking_within(reports: list[str]) -> set[str]:
+    """What fails at two places of what is asked where the side revokes."""
+    states = [State(report) for report in reports]
+    own = [sorted((c for c in state.capabilities if c.domain == state.first), key=lambda c: c.number) for state in states]
+    children = [{(c.held, above[0].held) for c in ranges if (above := state.line(c)) and above[0].domain == state.first} for state, ranges in zip(states, own)]
+    found = set()
+    for state in states:
+        if any(above.domain == state.first for c in state.capabilities if c.domain != state.first for above in state.line(c)):
+            found.add("DerivesWithin")
+    if children[0] != children[1]:
+        found.add("AreDerivedAlike.children")
+    if [c.held for c in own[0]] != [c.held for c in own[1]]:
+        found.add("AreDerivedAlike.order")
     return found
 
 

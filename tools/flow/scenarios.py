@@ -1,7 +1,7 @@
 """Scenarios of two sides, each on a processor of its own, that a root makes before it dies.
 
 Side 0 is the one that is looked at. `Free` sides do everything: they create, give, revoke. `Worker` sides are at work, and hold no right to
-create. `Fixed` sides have one program, as the leaks need it.
+create; `Reviser` sides are so, and revoke what they gave. `Fixed` sides have one program, as the leaks need it.
 """
 
 from __future__ import annotations
@@ -211,6 +211,51 @@ class Worker(Side):
         return [f"addi x9, x9, {rng.randrange(9)}"]
 
 
+class Reviser(Worker):
+    """A side at work that gives to itself again and again, and revokes what it gave."""
+
+    def place(self, objects: bool) -> int:
+        """A selector or page that it has at first, or comes to have."""
+        if objects:
+            return self.rng.choice([HANDLER, PORTAL, SHARED, CONTEXT, *range(32, 44)])
+        return self.rng.choice([self.page() + n for n in range(4, 8)] + [*range(0x200, 0x20C)])
+
+    def item(self, objects: bool) -> tuple[int, int]:
+        rng = self.rng
+        gives = rng.choice([0, 1, 1, 1, 1])  # rather than translates
+        if objects:
+            return word("obj", self.place(True), 0, 31), rng.randrange(32, 44) << 12 | gives
+        order = rng.choice([0, 0, 0, 1, 2])
+        return word("mem", self.place(False) >> order << order, order, 7), rng.randrange(0x200, 0x20C) << 12 | gives
+
+    def revoke(self) -> list[str]:
+        """Of what it had at first it takes away what it gave; else maybe the range itself, too."""
+        rng, order = self.rng, self.rng.choice([0, 1, 2, 3])
+        kind = rng.randrange(4)
+        if kind == 0:
+            return call(7, word("obj", rng.choice([HANDLER, SHARED, CONTEXT, PORTAL]), 0, 31), 0)
+        if kind == 1:
+            return call(7, word("obj", rng.randrange(32, 44) >> order << order, order, 31), rng.choice([0, 1]))
+        if kind == 2:
+            return call(7, word("mem", (self.page() + rng.randrange(4, 8)) >> order << order, order, 7), 0)
+        return call(7, word("mem", rng.randrange(0x200, 0x20C) >> order << order, order, 7), rng.choice([0, 1]))
+
+    def step(self, depth: int) -> list[str]:
+        rng = self.rng
+        kind = rng.random()
+        if kind < 0.2:
+            return self.revoke() + self.told()
+        if kind < 0.85:
+            opens = ["lui x5, 0xfffff", li(6, ALL if rng.random() < 0.4 else ALL_PAGES), "sw x6, 8(x5)", "sw x6, 4(x5)"]
+            return opens + message([self.item(True) for _ in range(rng.choice([0, 1, 2]))], 0) + call(0, PORTAL, 0) + self.told()
+        return super().step(depth)
+
+    def serves(self) -> list[str]:
+        rng = self.rng
+        before = self.revoke() if rng.random() < 0.3 else []
+        return before + message([self.item(rng.random() < 0.4) for _ in range(rng.randrange(1, 5))], rng.choice([0, 1, 2]))
+
+
 class Fixed(Side):
     """A side whose threads do these lines again and again, after others once."""
 
@@ -261,7 +306,7 @@ class SetUp:
         s, cpu, at = 400 + 20 * side, 1 + side, VIEW[side] * 4096
         lines = call(2, s, 0, word("mem", VIEW[side], 4, 7)) + call(3, s + 1, s, cpu, 0, 0) + call(5, s + 2, 0, s + 1, 0, at)
         lines += ["lui x5, 0xfffff", "sw x0, 0(x5)"]
-        if self.leak == "ancestor" and side == 1:  # which gives the root a page of its own
+        if (self.leak, side) in (("ancestor", 1), ("derived", 0)):  # which gives the root a page of its own
             lines += [li(6, word("mem", LENT_PAGE, 0, 1)), "sw x6, 8(x5)"]
         lines += call(0, s + 2, 0)
         lines += call(5, s + 3, 0, s + 1, 0, at + 0x100) + call(11, s + 3, at + 0x1000) + call(5, s + 4, 0, s + 1, 0, at + 0x200)
@@ -279,8 +324,8 @@ class SetUp:
         view = [(word("mem", 16, 3, 7), 0), (word("mem", 64, 0, 3), 8), (word("mem", 32, 3, 7), 0x20), (word("mem", 65, 0, 3), 0x28)]
         if self.leak == "frame":
             view += [(word("mem", 48, 0, 3), 0x0A), (word("mem", 48, 0, 3), 0x2A)]
-        if self.leak == "ancestor":
-            view.append((word("mem", 48, 0, 1), 0x2A))
+        if self.leak in ("ancestor", "derived"):
+            view.append((word("mem", 48, 0, 1), 0x2A if self.leak == "ancestor" else 0x0A))
         root = call(3, 200, 0, 0) + call(5, 201, 0, 200, 0, 0x4000)
         root += ["lui x5, 0xfffff", li(6, word("mem", 0x100, 6, 7)), "sw x6, 8(x5)", "sw x0, 0(x5)"] + call(0, 201, 0) + call(6, 202, 0, 0)
         if self.leak == "answers":  # the root's domain serves both sides, by a handler on the processor of each

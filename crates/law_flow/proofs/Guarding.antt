@@ -12,7 +12,7 @@ use Rattle.nova_range.specs.declared.range.Kind.{Kind}
 use Rattle.nova_range.specs.declared.range.Kind.TheVariants.{Mem}
 use Rattle.nova_model.specs.Boot.{Scenario, boot}
 use Rattle.nova_model.specs.Choice.{Candidate, next_to_act}
-use Rattle.nova_model.specs.Delegations.{Delegations, added, covers, parent_of, reach, with_id}
+use Rattle.nova_model.specs.Delegations.{Delegations, covers, reach, with_id}
 use Rattle.nova_model.specs.Forest.{IsForest}
 use Rattle.nova_model.specs.Lines.{line}
 use Rattle.nova_model.specs.Runs.{after, run}
@@ -37,6 +37,7 @@ use Rattle.law_isolation.proofs.Runs.{reached_sound, turn_sound}
 use Rattle.law_origins.specs.Giving.{Acts}
 use Rattle.law_origins.proofs.Actors.{object_stays}
 use Rattle.law_integrity.specs.Confined.{Holds, JoinsSet, IsMember, IsOwned, Of, Reach, more}
+use Rattle.law_integrity.specs.Rights.{GivesTo}
 use Rattle.law_integrity.specs.Integrity.{ByActor as ActsRightly, AlarmByTime, Creates, Gives, GrowsByRight, Idles as IsIdleTurn, IsAuthorised, IsByTime, Keeps, Passes as PassesBy, Rings, Takes as TakesLeaf}
 use Rattle.law_integrity.proofs.Apart.{apart_along}
 use Rattle.law_integrity.proofs.Authorised.{authorised, authorised_by}
@@ -53,8 +54,8 @@ use Rattle.law_flow.proofs.Leaving.{others_leave, some_there}
 use Rattle.law_flow.proofs.Others.{IsForeign, side_left, time_leaves, timeless_foreign}
 use Rattle.law_flow.proofs.Seeing.{page_by, page_held}
 use Rattle.law_flow.proofs.Turns.{alike_itself}
+use Rattle.law_flow.proofs.Ungiven.{ungiven_derives}
 use Rattle.law_flow.proofs.Sets.{apart_as, line_in, line_kept, parents_kept}
-use Rattle.law_flow.proofs.Taking.{derives_kept, last_one, last_there, still_there}
 
 -- THE CONDITION AFTER A TURN
 
@@ -320,73 +321,15 @@ others_leave_alone s before S P T cpu c timeless none = let t = others_turn s be
 -- and makes nothing of what the side holds
 pub others_derive : (s : Scenario) (before : List ℕ) (S P : ℕ → Bool) (T : ℕ → Type 0) (cpu : ℕ) → IsPartitioned (run (boot s) before) (Of S) T (Of P) → own_turn S (run (boot s) before) cpu ≡ None → DerivesWithin (run (boot s) before) (Of S) →
     DerivesWithin (after (run (boot s) before) cpu) (Of S)
-others_derive s before S P T cpu c none within = derives_kept k new (Of S) sound.forest (reached_change s before cpu) within joins
+others_derive s before S P T cpu c none within = ungiven_derives s before S cpu gives_none within
   where
     k : KernelState
     k = run (boot s) before
 
-    new : KernelState
-    new = after (run (boot s) before) cpu
-
-    sound : IsSound (run (boot s) before)
-    sound = reached_sound s before
-
-    forest : IsForest (after (run (boot s) before) cpu).delegations
-    forest = (turn_sound k cpu sound).forest
-
-    -- one more is not the same, nor one less
-    grown : (x : Derivation) → (after (run (boot s) before) cpu).delegations ≡ added (run (boot s) before).delegations x → (after (run (boot s) before) cpu).delegations.next ≡ (run (boot s) before).delegations.next → ⊥
-    grown x is same = let next : k.delegations.next + 1 ≡ k.delegations.next = sym (ap (λ (f : Delegations). f.next) is) ∙ same in omega (arith, next)
-
-    -- where it is the only one of its line, or made of what is another's
-    joins : (x a : Derivation) → (after (run (boot s) before) cpu).delegations ≡ added (run (boot s) before).delegations x → Contains (line (after (run (boot s) before) cpu).delegations.list x) a → S a.pd ≡ true → S x.pd ≡ true
-    joins x a is above s_pd = elim (comes k cpu) [
-      | Idles nobody quiet same answer ↦ absurd (grown x is (ap (λ (l : KernelState). l.delegations.next) same))
-      | Takes t e turning state answer ↦ elim turning [
-        | Chosen d chosen its event ↦ by_acts d.actor (ap (option_map (λ (d : Candidate). d.actor)) chosen)
-        | Passes p due its event ↦ absurd (grown x is (ap (λ (l : KernelState). l.delegations.next) (state ∙ ap (turned k cpu) its)))
-      ]
+    gives_none : (ec giver receiver : ℕ) → Acts (run (boot s) before) cpu ec → GivesTo (run (boot s) before) ec giver receiver → S giver ≡ true → ⊥
+    gives_none ec giver receiver acts_ gives mine = elim (acts_in k (Of S) T cpu ec c.apart.separate acts_) [
+      | inl m ↦ own_from S k cpu ec acts_ (member_pd k (Of S) ec m) none
+      | inr m ↦
+          c.apart.separate.disjoint giver mine
+          (gives_in k T ec giver receiver (reached_sound s before) c.apart.separate.second (acting_one k cpu ec acts_) m gives).0
     ]
-      where
-        there : IsIn (after (run (boot s) before) cpu).delegations.list x
-        there = subst (λ (f : Delegations). IsIn f.list x) (sym is) (last_there k.delegations.list x)
-
-        by_line : (o : Option Derivation) → parent_of (after (run (boot s) before) cpu).delegations.list x ≡ o → ((q : Derivation) → o ≡ Some q → IsIn (run (boot s) before).delegations.list q × (S q.pd ≡ true → ⊥)) → S x.pd ≡ true
-        by_line o up of =
-            by_member o up of (subst (λ (l : List Derivation). IsIn l a) (line_is new.delegations x forest there ∙ ap (λ (u : Option Derivation). x ∷ line_from new.delegations.list u) up) (in_from_contains (line new.delegations.list x) a above))
-          where
-            by_member : (o : Option Derivation) → parent_of (after (run (boot s) before) cpu).delegations.list x ≡ o → ((q : Derivation) → o ≡ Some q → IsIn (run (boot s) before).delegations.list q × (S q.pd ≡ true → ⊥)) →
-                IsIn (x ∷ line_from (after (run (boot s) before) cpu).delegations.list o) a → S x.pd ≡ true
-            by_member o up of (inl same) = ap (λ (y : Derivation). S y.pd) same ∙ s_pd
-            by_member None up of (inr further) = absurd further
-            by_member (Some q) up of (inr further) =
-                let its = of q refl in
-                let kept : line new.delegations.list q ≡ line k.delegations.list q =
-                line_kept k.delegations.list new.delegations.list (parents_kept k.delegations new.delegations sound.forest (reached_change s before cpu)) (suc q.id) q its.0 in
-                absurd (its.1 (within q a (contains_from_in k.delegations.list q its.0) (subst (λ (l : List Derivation). Contains l a) kept (contains_from_in (line new.delegations.list q) a further)) s_pd))
-
-        by_grows : (ec : ℕ) → Acts (run (boot s) before) cpu ec → IsMember (run (boot s) before) T ec → GrowsByRight (run (boot s) before) (after (run (boot s) before) cpu) ec → S x.pd ≡ true
-        by_grows ec acts_ m (Keeps objects same) = absurd (grown x is (ap (λ (f : Delegations). f.next) same))
-        by_grows ec acts_ m (TakesLeaf leaf may objects same) = absurd (grown x is (ap (λ (f : Delegations). f.next) same))
-        by_grows ec acts_ m (Creates object capability first objects same) =
-            let one : capability ≡ x = last_one k.delegations.list capability x (ap (λ (f : Delegations). f.list) (sym same ∙ is)) in
-            by_line None (ap (option_and_then (with_id new.delegations.list)) (sym (ap (λ (d : Derivation). d.parent) one) ∙ first.parent)) (λ q h. absurd (cc))
-        by_grows ec acts_ m (Gives child source has named within_ shared given gives objects same) =
-            let one : child ≡ x = last_one k.delegations.list child x (ap (λ (f : Delegations). f.list) (sym same ∙ is)) in
-            let old : IsIn k.delegations.list source = in_from_contains k.delegations.list source has in
-            let up : parent_of new.delegations.list x ≡ Some source =
-            ap (option_and_then (with_id new.delegations.list)) (sym (ap (λ (d : Derivation). d.parent) one) ∙ named)
-            ∙ member_found new.delegations.list source forest.rising (subst (λ (f : Delegations). IsIn f.list source) (sym is) (still_there k.delegations.list x source old)) in
-            by_line (Some source) up (λ q h.
-            let same_q : source ≡ q = same_Some source q h in (
-              subst (IsIn k.delegations.list) same_q old,
-              λ mine. c.apart.separate.disjoint q.pd mine
-                  (subst (λ (d : Derivation). T d.pd) same_q (gives_in k T ec source.pd child.pd sound c.apart.separate.second (acting_one k cpu ec acts_) m gives).0),
-            ))
-
-        by_member_of : (ec : ℕ) → Acts (run (boot s) before) cpu ec → IsMember (run (boot s) before) (Of S) ec ⊎ IsMember (run (boot s) before) T ec → S x.pd ≡ true
-        by_member_of ec acts_ (inl m) = absurd (own_from S k cpu ec acts_ (member_pd k (Of S) ec m) none)
-        by_member_of ec acts_ (inr m) = by_grows ec acts_ m (authorised_by s before cpu ec acts_).2.grows
-
-        by_acts : (ec : ℕ) → Acts (run (boot s) before) cpu ec → S x.pd ≡ true
-        by_acts ec acts_ = by_member_of ec acts_ (acts_in k (Of S) T cpu ec c.apart.separate acts_)

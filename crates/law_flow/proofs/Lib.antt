@@ -16,6 +16,7 @@ pub mod Turns
 pub mod Leaving
 pub mod Others
 pub mod Within
+pub mod Ungiven
 pub mod Guarding
 pub mod Own
 pub mod Timing
@@ -29,3 +30,4 @@ pub mod Second
 pub mod Looking
 pub mod Meeting
 pub mod Deriving
+pub mod Working

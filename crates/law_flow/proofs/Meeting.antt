@@ -42,7 +42,7 @@ use Rattle.law_flow.proofs.Looking.{AllAt, IsCalm, at_all, calm_context, calm_ed
 
 abbrev objects_there : List Object
 objects_there =
-    Pd ∷ Ec 0 0 Global 16 ∷ Sc 1 0 1 100 ∷ Pd ∷ Pd ∷ Ec 3 0 Local 0 ∷ Ec 4 1 Local 0 ∷ Pt 5 0 0 ∷ Pt 6 0 0 ∷ Pd ∷ Pd ∷ Ec 9 0 Vcpu 64 ∷ Ec 10 1 Vcpu 65 ∷ Sc 11 0 0 1 ∷ Sc 12 1 0 1 ∷ []
+    Pd ∷ Ec 0 0 Global 16 ∷ Sc 1 0 1 100 ∷ Pd ∷ Pd ∷ Ec 3 0 Local 0 ∷ Ec 4 1 Local 0 ∷ Pt 5 0 4096 ∷ Pt 6 0 4096 ∷ Pd ∷ Pd ∷ Ec 9 0 Vcpu 64 ∷ Ec 10 1 Vcpu 65 ∷ Sc 11 0 0 1 ∷ Sc 12 1 0 1 ∷ []
 
 abbrev of_root : Derivation
 of_root = record { id = 0; pd = 0; kind = Mem; base = 0; order = 2; rights = record { 0 = 7 }; target = 0; parent = None }
@@ -94,15 +94,15 @@ record Shows (k : KernelState) : Type 0 where
   deadlines_are : k.times.deadlines ≡ nothing {T = Deadline}
   alarms_are : k.times.alarms ≡ []
 
-shown : Shows (run (boot two_homes) (replicate 65 0))
+shown : Shows (run (boot two_homes) (replicate 66 0))
 unfolding one instr_of call_of choice deed input_of next_entry charged turn
 shown = record { objects_are = refl; ranges_are = refl; states_are = refl; callers_are = refl; semaphores_are = refl; deadlines_are = refl; alarms_are = refl }
 
 -- a virtual CPU of the first side's
-pub has_guest : slice_get (run (boot two_homes) (replicate 65 0)).objects 11 ≡ Some (Ec 9 0 Vcpu 64)
+pub has_guest : slice_get (run (boot two_homes) (replicate 66 0)).objects 11 ≡ Some (Ec 9 0 Vcpu 64)
 has_guest = ap (λ (os : List Object). slice_get os 11) shown.objects_are
 
-pub has_turn_next : own_turn first_domains (run (boot two_homes) (replicate 65 0)) 0 ≡ Some (11, 13)
+pub has_turn_next : own_turn first_domains (run (boot two_homes) (replicate 66 0)) 0 ≡ Some (11, 13)
 unfolding one instr_of call_of choice deed input_of next_entry next_to_act charged turn
 has_turn_next = refl
 
@@ -335,7 +335,7 @@ module _ (k : KernelState) (shows : Shows k) where
           (subst (IsOwned k (Of first_domains) 7) (sym (obj 7)) (member (Of first_domains) 5 3 0 Local 0 (obj 5) refl))
           (subst (IsOwned k (Of first_domains) 11) (sym (obj 11)) refl)
           (subst (IsOwned k (Of first_domains) 13) (sym (obj 13)) (member (Of first_domains) 11 9 0 Vcpu 64 (obj 11) refl));
-      semaphores = λ n p is h. own_object (λ n. slice_get k.objects n ≡ Some Sm → ⊥) (no_sm 5 (Ec 3 0 Local 0) refl (λ e. cc)) (no_sm 7 (Pt 5 0 0) refl (λ e. cc))
+      semaphores = λ n p is h. own_object (λ n. slice_get k.objects n ≡ Some Sm → ⊥) (no_sm 5 (Ec 3 0 Local 0) refl (λ e. cc)) (no_sm 7 (Pt 5 0 4096) refl (λ e. cc))
           (no_sm 11 (Ec 9 0 Vcpu 64) refl (λ e. cc)) (no_sm 13 (Sc 11 0 0 1) refl (λ e. cc)) n p is;
       lines = λ d a has s c t.
           all_at ComesOfRoot ranges_there d all_come (listed d has) s a (subst (λ (l : List Derivation). Contains (line l d) a) shows.ranges_are c) t;
@@ -374,17 +374,17 @@ module _ (k : KernelState) (shows : Shows k) where
     others = λ n pd cpu kind event is t c. (fits n (Ec pd cpu kind event) is).1 t c;
     creates = λ pd t may.
         let target = holds_second may.capability may.there (subst (Of other_domains) (sym may.held) t) may.kind in
-        let both : Some (Pt 6 0 0) ≡ Some Pd = sym (obj 8) ∙ ap (slice_get k.objects) (sym target) ∙ may.leads in cc;
+        let both : Some (Pt 6 0 4096) ≡ Some Pd = sym (obj 8) ∙ ap (slice_get k.objects) (sym target) ∙ may.leads in cc;
   }
 
-pub meets_partitioned : IsPartitioned (run (boot two_homes) (replicate 65 0)) (Of first_domains) (Of other_domains) (Of first_objects)
-meets_partitioned = partitioned (run (boot two_homes) (replicate 65 0)) shown
+pub meets_partitioned : IsPartitioned (run (boot two_homes) (replicate 66 0)) (Of first_domains) (Of other_domains) (Of first_objects)
+meets_partitioned = partitioned (run (boot two_homes) (replicate 66 0)) shown
 
-pub meets_timeless : IsTimeless (run (boot two_homes) (replicate 65 0)) (Of first_objects)
-meets_timeless = timeless (run (boot two_homes) (replicate 65 0)) shown
+pub meets_timeless : IsTimeless (run (boot two_homes) (replicate 66 0)) (Of first_objects)
+meets_timeless = timeless (run (boot two_homes) (replicate 66 0)) shown
 
-pub meets_divided : IsDivided (run (boot two_homes) (replicate 65 0)) (Of first_domains) (Of other_domains) (Of first_objects) (Of first_processors)
-meets_divided = divided (run (boot two_homes) (replicate 65 0)) shown
+pub meets_divided : IsDivided (run (boot two_homes) (replicate 66 0)) (Of first_domains) (Of other_domains) (Of first_objects) (Of first_processors)
+meets_divided = divided (run (boot two_homes) (replicate 66 0)) shown
 
-pub ranges_shown : (run (boot two_homes) (replicate 65 0)).delegations.list ≡ ranges_there
+pub ranges_shown : (run (boot two_homes) (replicate 66 0)).delegations.list ≡ ranges_there
 ranges_shown = shown.ranges_are

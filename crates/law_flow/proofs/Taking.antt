@@ -1,9 +1,8 @@
 -- A range that a revoke of the side's takes away is taken of the side's part alike, in two states in which that is the same; and what is asked of both where the side revokes stays so.
 use Rattle.std.proofs.Common.{arith, ◌≡◌, ◌⊎◌, ℕ, suc, ◌==◌, ◌<◌, List, [], ◌∷◌, ◌++◌, refl, sym, ap, ap₂, ◌∙◌, subst, inl, inr}
-use Rattle.std.specs.Prelude.{Bool, true, false, Contains, filter, nat_lt, not, option_map, Option, Some, None}
+use Rattle.std.specs.Prelude.{Bool, true, false, Contains, nat_lt, not, option_map, Option, Some, None}
 use Rattle.std.specs.List.{find}
 use Rattle.std.proofs.lemmas.Bool.{eq-eqb, eqb-true, ne_eqb}
-use Rattle.std.proofs.lemmas.Option.{same_Some}
 use Rattle.nova_guest.specs.declared.page.Page.{Page}
 use Rattle.nova_range.specs.Ranges.{HasPlace}
 use Rattle.nova_range.specs.declared.range.Kind.{Kind}
@@ -24,9 +23,9 @@ use Rattle.law_forest.proofs.Scopes.{next_childless}
 use Rattle.law_isolation.specs.Sound.{IsSound}
 use Rattle.law_isolation.proofs.Runs.{turn_sound}
 use Rattle.law_flow.specs.Flow.{AreAlike, AreDerivedAlike, AreRevokingWithin, DerivesWithin, Held, IsSameRange, IsSide, held_by, origin_of}
-use Rattle.law_flow.proofs.Doing.{Seen, by_deed, frames_same, paid_same}
+use Rattle.law_flow.proofs.Doing.{by_deed, frames_same, paid_same}
 use Rattle.law_flow.proofs.Giving.{in_joined, twin_covers}
-use Rattle.law_flow.proofs.Holds.{IsTwin, at_base, covering, hold_flipped, one_covers, twin_in}
+use Rattle.law_flow.proofs.Holds.{HoldAlike, IsTwin, at_base, covering, hold_flipped, one_covers, twin_in}
 use Rattle.law_flow.proofs.Leaves.{both_so, one_range, range_flipped}
 use Rattle.law_flow.proofs.Origins.{origin_kept}
 use Rattle.law_flow.proofs.Parts.{IsPart}
@@ -300,9 +299,9 @@ still_there [] x d i = absurd i
 still_there (y ∷ list) x d (inl same) = inl same
 still_there (y ∷ list) x d (inr i) = inr (still_there list x d i)
 
--- a turn that leaves the side's part as it is brings it no range
-pub left_gains : (k : KernelState) (S P : ℕ → Type 0) (cpu : ℕ) → IsSound k → AreAlike k (after k cpu) S P → GainsNone k (after k cpu) S
-left_gains k S P cpu sound same d there s = by_change (turn_change k cpu sound.forest)
+-- a turn that leaves what the side holds as it is brings it no range
+pub left_gains : (k : KernelState) (S : ℕ → Type 0) (cpu : ℕ) → IsSound k → HoldAlike S k.delegations.list (after k cpu).delegations.list → GainsNone k (after k cpu) S
+left_gains k S cpu sound same d there s = by_change (turn_change k cpu sound.forest)
   where
     new : Delegations
     new = (after k cpu).delegations
@@ -315,7 +314,7 @@ left_gains k S P cpu sound same d there s = by_change (turn_change k cpu sound.f
       | inl old ↦ contains_from_in k.delegations.list d old
       | inr one ↦
           let forest = (turn_sound k cpu sound).forest in
-          let t = twin_in S new.list k.delegations.list forest.apart (hold_flipped S k.delegations.list new.list same.spaces) d (in_from_contains new.list d there) s in
+          let t = twin_in S new.list k.delegations.list forest.apart (hold_flipped S k.delegations.list new.list same) d (in_from_contains new.list d there) s in
           let here : IsIn new.list t.twin = subst (λ (f : Delegations). IsIn f.list t.twin) (sym is) (still_there k.delegations.list x t.twin t.there) in
           let its : t.twin ≡ d =
           one_covers new.list d.kind d.pd d.base t.twin d forest.apart here (in_from_contains new.list d there)
@@ -349,7 +348,7 @@ derives_kept k m S forest change within joins d a there above s = by_change chan
     ]
 
 -- where no range joins and none goes
-derives_same : (k m : KernelState) (S : ℕ → Type 0) → m.delegations ≡ k.delegations → DerivesWithin k S → DerivesWithin m S
+pub derives_same : (k m : KernelState) (S : ℕ → Type 0) → m.delegations ≡ k.delegations → DerivesWithin k S → DerivesWithin m S
 derives_same k m S same within d a there above s =
     within d a (subst (λ (f : Delegations). Contains f.list d) same there) (subst (λ (f : Delegations). Contains (line f.list d) a) same above) s
 

@@ -236,10 +236,10 @@ own_derived k l S P cpu other ec sc t own also works a =
 
 -- and after a turn that leaves the side's part alone, in the first of two states, and in the second
 pub left_derived : (k l : KernelState) (S P : ℕ → Bool) (cpu : ℕ) → IsSound k → AreAlike k (after k cpu) (Of S) (Of P) → AreDerivedAlike k l (Of S) → AreDerivedAlike (after k cpu) l (Of S)
-left_derived k l S P cpu sound same a = derived_kept k l (after k cpu) l (Of S) (left_gains k (Of S) (Of P) cpu sound same) (λ d there s. there) a
+left_derived k l S P cpu sound same a = derived_kept k l (after k cpu) l (Of S) (left_gains k (Of S) cpu sound same.spaces) (λ d there s. there) a
 
 pub derived_left : (k l : KernelState) (S P : ℕ → Bool) (cpu : ℕ) → IsSound l → AreAlike l (after l cpu) (Of S) (Of P) → AreDerivedAlike k l (Of S) → AreDerivedAlike k (after l cpu) (Of S)
-derived_left k l S P cpu sound same a = derived_kept k l k (after l cpu) (Of S) (λ d there s. there) (left_gains l (Of S) (Of P) cpu sound same) a
+derived_left k l S P cpu sound same a = derived_kept k l k (after l cpu) (Of S) (λ d there s. there) (left_gains l (Of S) cpu sound same.spaces) a
 
 abbrev pub OwnDeed : Type 0
 OwnDeed = ℕ × Deed

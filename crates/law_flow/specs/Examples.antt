@@ -1,22 +1,25 @@
--- A run that comes to a state of the shape that the premises are written for: two sides, on a processor each.
-use Rattle.std.specs.Prelude.{ℕ, ◌==◌, ◌||◌, Bool, [], ◌∷◌}
+-- A run that comes to a state of the shape that the premises are written for: two sides, on a processor each, of which one revokes and gives from there on.
+use Rattle.std.specs.Prelude.{ℕ, ◌==◌, ◌||◌, Bool, [], ◌∷◌, Some}
+use Rattle.nova_range.specs.declared.range.Kind.TheVariants.{Mem}
 use Rattle.nova_model.specs.Boot.{Scenario}
-use Rattle.law_integrity.specs.Examples.{bytes_of}
+use Rattle.nova_model.specs.declared.delegation.Derivation.{Derivation}
+use Rattle.law_integrity.specs.Examples.{image}
 
 -- On two processors, with 4 pages, the root makes two monitors, protection domains 3 and 4, gives page 1 to the first and page 2 to the second, and
 -- makes a handler in each, the local threads 5 and 6, with portals 7 and 8 to them. It makes two guests, domains 9 and 10, gives each the portal of
 -- its monitor, with the right to send exits, and makes a virtual CPU in each, 11 and 12, with scheduling contexts 13 and 14. Handler 6 and guest 12
--- are on processor 1. Then it dies, all in 65 turns.
+-- are on processor 1. Then it dies, all in 66 turns. Handlers begin in page 1, where
+-- the first one revokes what was given of that page, which is nothing, and replies to its guest's startup with an item, which gives it the page at 0.
 abbrev pub two_homes : Scenario
 two_homes = record {
   cpus = 2;
   ram = 2;
   consoles = 0;
   root = record { pc = 0; sp = 0; priority = 1; quantum = 100 };
-  images = record {
-    address = 0;
-    bytes = bytes_of (2099347 ∷ 33555731 ∷ 5687 ∷ 30803475 ∷ 115 ∷ 34604307 ∷ 9783 ∷ 30803475 ∷ 115 ∷ 3147923 ∷ 35652883 ∷ 33555859 ∷ 1555 ∷ 115 ∷ 36701459 ∷ 34604435 ∷ 1050131 ∷ 115 ∷ 5245075 ∷ 67110163 ∷ 1427 ∷ 35653139 ∷ 115 ∷ 68158739 ∷ 36701715 ∷ 115 ∷ 2099347 ∷ 37750035 ∷ 263735 ∷ 20317715 ∷ 115 ∷ 38798611 ∷ 267831 ∷ 20317715 ∷ 115 ∷ 3147923 ∷ 39847187 ∷ 37750163 ∷ 536872467 ∷ 67110675 ∷ 115 ∷ 40895763 ∷ 38798739 ∷ 537921043 ∷ 68159251 ∷ 115 ∷ 4196499 ∷ 41944339 ∷ 1427 ∷ 39847443 ∷ 268437139 ∷ 115 ∷ 42992915 ∷ 40896019 ∷ 115 ∷ 1048691 ∷ []);
-  } ∷ [];
+  images =
+      image 0 (2099347 ∷ 33555731 ∷ 5687 ∷ 30803475 ∷ 115 ∷ 34604307 ∷ 9783 ∷ 30803475 ∷ 115 ∷ 3147923 ∷ 35652883 ∷ 33555859 ∷ 1555 ∷ 115 ∷ 36701459 ∷ 34604435 ∷ 1050131 ∷ 115 ∷ 5245075 ∷ 67110163 ∷ 1427 ∷ 35653139 ∷ 5943 ∷ 115 ∷ 68158739 ∷ 36701715 ∷ 115 ∷ 2099347 ∷ 37750035 ∷ 263735 ∷ 20317715 ∷ 115 ∷ 38798611 ∷ 267831 ∷ 20317715 ∷ 115 ∷ 3147923 ∷ 39847187 ∷ 37750163 ∷ 536872467 ∷ 67110675 ∷ 115 ∷ 40895763 ∷ 38798739 ∷ 537921043 ∷ 68159251 ∷ 115 ∷ 4196499 ∷ 41944339 ∷ 1427 ∷ 39847443 ∷ 268437139 ∷ 115 ∷ 42992915 ∷ 40896019 ∷ 115 ∷ 1048691 ∷ [])
+      ∷ image 4096 (5047 ∷ 13861779 ∷ 230675 ∷ 7342227 ∷ 115 ∷ 4294963895 ∷ 66359 ∷ 6463523 ∷ 510831651 ∷ 1049747 ∷ 512929315 ∷ 1050771 ∷ 115 ∷ [])
+      ∷ [];
   sources = [];
 }
 
@@ -32,3 +35,7 @@ first_objects n = (n == 5) || ((n == 7) || ((n == 11) || (n == 13)))
 
 abbrev pub first_processors : ℕ → Bool
 first_processors n = n == 0
+
+-- what the first monitor gives its guest: its page, at 0
+abbrev pub given_page : Derivation
+given_page = record { id = 20; pd = 9; kind = Mem; base = 0; order = 0; rights = record { 0 = 3 }; target = 1; parent = Some 5 }

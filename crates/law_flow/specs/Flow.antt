@@ -138,7 +138,7 @@ pub record IsAtWork (timed giving revoking : Type 0) (k : KernelState) (ec : ℕ
 abbrev pub HasSameClock : KernelState → KernelState → ℕ → Type 0
 HasSameClock k l ec = clock l.times (processor_of k ec) ≡ clock k.times (processor_of k ec)
 
--- no execution context of the side's is amid a revoke, and none is that revokes what something of the side's was derived from
+-- No execution context of the side's is amid a revoke; and, by the record, none of others is that revokes what something of the side's was derived from.
 abbrev pub RevokesNothing : KernelState → (ℕ → Type 0) → Type 0
 RevokesNothing k S = (n : ℕ) (range : Range) (own : Bool) → (context k n).state ≡ Revoking range own → S (pd_of k n) → ⊥
 
@@ -232,7 +232,7 @@ AreLeftAlone revokes S P k [] = Unit {0}
 AreLeftAlone revokes S P k (cpu ∷ turns) =
     (own_turn S k cpu ≡ None → IsLeftAlone k (Of S) (Of P) cpu) × GivesWithin S k cpu × (revokes ≡ true → DerivesWithin k (Of S)) × AreLeftAlone revokes S P (after k cpu) turns
 
--- in each of the side's turns it is at work, with deadlines or without; or without. The first says whether it may revoke.
+-- In each of the side's turns it is at work, with deadlines or without (or without them): it gives only while none of it is amid a revoke, and revokes only where the first says that it may.
 abbrev pub AreAtWork : Bool → (ℕ → Bool) → KernelState → List ℕ → Type 0
 AreAtWork revokes S k [] = Unit {0}
 AreAtWork revokes S k (cpu ∷ turns) = ((ec sc : ℕ) → own_turn S k cpu ≡ Some (ec, sc) → IsAtWork (Unit {0}) (RevokesNothing k (Of S)) (revokes ≡ true) k ec) × AreAtWork revokes S (after k cpu) turns

@@ -8,11 +8,12 @@ ghost use Rattle.std.specs.Prelude.{◌≡◌, ℕ, Bool, true, List, None, Some
 ghost use Rattle.nova_model.specs.Boot.{Scenario, boot};
 ghost use Rattle.nova_model.specs.Deeds.{deed};
 ghost use Rattle.nova_model.specs.Runs.{after, run};
-ghost use Rattle.nova_model.specs.State.{KernelState};
+ghost use Rattle.nova_model.specs.State.{KernelState, context};
+ghost use Rattle.nova_model.specs.declared.deed.Deed.TheVariants.{Gives};
 ghost use Rattle.law_isolation.specs.Sound.{IsSound};
 ghost use Rattle.law_integrity.specs.Confined.{Of};
-ghost use Rattle.law_flow.specs.Examples.{first_domains, first_objects, first_processors, other_domains, two_homes};
-ghost use Rattle.law_flow.specs.Flow.{AreAlike, AreAlikeAlong, AreAtWork, AreAtWorkTimeless, AreDerivedAlike, AreGivingWithin, AreLeftAlone, AreRevokingWithin, DerivesWithin, HasSameClock, IsAtWork, IsGivingWithin, IsLeftAlone, IsPartitioned, IsSide, IsTimeless, own_turn, schedule, unnumbered};
+ghost use Rattle.law_flow.specs.Examples.{first_domains, first_objects, first_processors, given_page, other_domains, two_homes};
+ghost use Rattle.law_flow.specs.Flow.{AreAlike, AreAlikeAlong, AreAtWork, AreAtWorkTimeless, AreDerivedAlike, AreGivingWithin, AreLeftAlone, AreRevokingWithin, DerivesWithin, HasSameClock, IsAtWork, IsGivingWithin, IsLeftAlone, IsPartitioned, IsSide, IsTimeless, is_revoking, own_turn, schedule, unnumbered};
 ghost use Rattle.law_flow.specs.Processors.{AreAlikeAtHome, AreAtHome, AreTimed, IsDivided};
 
 /// Take two sound states in which a side's part is the same, and a turn of the same execution context of the side in
@@ -124,14 +125,18 @@ pub fn noninterference_on_divided_processors()
         → AreAlikeAtHome (run (boot a) before) (run (boot b) since) turns others S P C }
 {}
 
-/// A run of 65 turns from a boot state meets the premises of noninterference. A root makes two guests on a processor each, a virtual CPU with a
+/// A run of 66 turns from a boot state meets the premises of noninterference. A root makes two guests on a processor each, a virtual CPU with a
 /// scheduling context, and a monitor for each, with a page, a handler and a portal to it that the guest holds, and dies. Then the first guest
 /// and its monitor are partitioned off, without alarms and deadlines; the processors are divided; nothing that others hold was made of what they
-/// hold; and the guest has the next turn of the first one.
+/// hold; and the guest has the next turn of the first one. In the 18 turns of that processor that follow the monitor revokes what was given
+/// of its page, and gives the page to the guest: the side is at work, and may revoke.
 pub fn a_run_comes_to_the_premises()
-    ensures partitioned { IsPartitioned (run (boot two_homes) (replicate 65 0)) (Of first_domains) (Of other_domains) (Of first_objects) }
-    ensures timeless { IsTimeless (run (boot two_homes) (replicate 65 0)) (Of first_objects) }
-    ensures divided { IsDivided (run (boot two_homes) (replicate 65 0)) (Of first_domains) (Of other_domains) (Of first_objects) (Of first_processors) }
-    ensures revoking { AreRevokingWithin (run (boot two_homes) (replicate 65 0)) (run (boot two_homes) (replicate 65 0)) (Of first_domains) }
-    ensures acts { own_turn first_domains (run (boot two_homes) (replicate 65 0)) 0 ≡ Some (11, 13) }
+    ensures partitioned { IsPartitioned (run (boot two_homes) (replicate 66 0)) (Of first_domains) (Of other_domains) (Of first_objects) }
+    ensures timeless { IsTimeless (run (boot two_homes) (replicate 66 0)) (Of first_objects) }
+    ensures divided { IsDivided (run (boot two_homes) (replicate 66 0)) (Of first_domains) (Of other_domains) (Of first_objects) (Of first_processors) }
+    ensures revoking { AreRevokingWithin (run (boot two_homes) (replicate 66 0)) (run (boot two_homes) (replicate 66 0)) (Of first_domains) }
+    ensures acts { own_turn first_domains (run (boot two_homes) (replicate 66 0)) 0 ≡ Some (11, 13) }
+    ensures works { AreAtWorkTimeless true first_domains (run (boot two_homes) (replicate 66 0)) (replicate 18 0) }
+    ensures revokes { is_revoking (context (run (boot two_homes) (replicate 73 0)) 5).state ≡ true }
+    ensures gives { deed (run (boot two_homes) (replicate 82 0)) 5 ≡ Gives given_page 2 }
 {}

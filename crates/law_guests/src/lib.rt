@@ -96,8 +96,8 @@ pub fn a_guest_on_divided_processors_is_one_guest()
     law_renaming::renamings_are_there();
 }
 
-/// The state that meets the premises of divided processors, after 65 turns from a boot state, has a virtual CPU in its side.
+/// The state that meets the premises of divided processors, after 66 turns from a boot state, has a virtual CPU in its side.
 pub fn the_premises_are_met_with_a_guest()
-    ensures guest { IsVirtual (run (boot two_homes) (replicate 65 0)) 11 }
-    ensures side { first_domains (pd_of (run (boot two_homes) (replicate 65 0)) 11) ≡ true }
+    ensures guest { IsVirtual (run (boot two_homes) (replicate 66 0)) 11 }
+    ensures side { first_domains (pd_of (run (boot two_homes) (replicate 66 0)) 11) ≡ true }
 {}

@@ -1,6 +1,6 @@
 -- Turns that are admitted leave a side's part alone, or come to no more than their entries; so do turns in which nobody acts.
 use Rattle.std.proofs.Common.{◌≡◌, ℕ, List, [], ◌∷◌, ◌++◌, refl, sym, ap, ◌∙◌, subst}
-use Rattle.std.specs.Prelude.{Bool, true, false, Contains, IsSome, slice_get, option_and_then, Option, Some, None}
+use Rattle.std.specs.Prelude.{Bool, true, Contains, IsSome, slice_get, option_and_then, Option, Some, None}
 use Rattle.std.proofs.lemmas.Option.{slice_get_within}
 use Rattle.nova_objects.specs.declared.object.Object.{Object}
 use Rattle.nova_model.specs.Boot.{Scenario, boot}
@@ -18,12 +18,14 @@ use Rattle.law_origins.proofs.Lists.{run_append}
 use Rattle.law_integrity.specs.Confined.{Of}
 use Rattle.law_integrity.specs.Integrity.{IsByTime}
 use Rattle.law_integrity.proofs.Passing.{coming, due_in, turned_by_time}
-use Rattle.law_flow.specs.Flow.{AreAlike, AreAtWorkTimeless, IsLeftAlone, IsSide, IsTimeless, RevokesNothing, own_turn}
+use Rattle.law_flow.specs.Flow.{AreAlike, AreAtWorkTimeless, AreGivingWithin, AreRevokingWithin, DerivesWithin, HasSameClock, IsAtWork, IsLeftAlone, IsSide, IsTimeless, RevokesNothing, own_turn}
+use Rattle.law_flow.proofs.Deriving.{revoking_itself}
 use Rattle.law_flow.proofs.Leaving.{some_there}
 use Rattle.law_flow.proofs.Others.{side_left, time_leaves, timeless_foreign}
 use Rattle.law_flow.proofs.Turns.{AreTwins, alike_itself, own_is, own_side, own_there, working_both}
 use Rattle.law_service.specs.Service.{AreAdmitted, AreServed, ByComputing, ByGift, ByNobody, ByStranger, Entry, IsAdmitted, IsServedBy, entry_by, entry_in}
 use Rattle.law_service.proofs.Computing.{computes}
+use Rattle.law_service.proofs.Deriving.{admitted_derives, own_derives_too}
 use Rattle.law_service.proofs.Giving.{gives}
 use Rattle.law_service.proofs.Strangers.{strangers}
 
@@ -77,15 +79,17 @@ served_side : (k : KernelState) (S P : ℕ → Type 0) (cpu : ℕ) (o : Option E
 served_side k S P cpu None served = served.side
 served_side k S P cpu (Some e) served = served.side
 
-pub served_along : (s : Scenario) (before turns : List ℕ) (S P : ℕ → Bool) → IsSide (run (boot s) before) (Of S) (Of P) → ((n : ℕ) → P n ≡ true → IsSome (slice_get (run (boot s) before).objects n)) →
-    AreAdmitted S P (run (boot s) before) turns → AreAtWorkTimeless false S (run (boot s) before) turns → AreServed S P (run (boot s) before) turns
-served_along s before [] S P side there admitted works = tt
-served_along s before (cpu ∷ turns) S P side there admitted works = (
+pub served_along : (revokes : Bool) (s : Scenario) (before turns : List ℕ) (S P : ℕ → Bool) → IsSide (run (boot s) before) (Of S) (Of P) → ((n : ℕ) → P n ≡ true → IsSome (slice_get (run (boot s) before).objects n)) →
+    (revokes ≡ true → DerivesWithin (run (boot s) before) (Of S)) → AreAdmitted S P (run (boot s) before) turns → AreAtWorkTimeless revokes S (run (boot s) before) turns → AreServed revokes S P (run (boot s) before) turns
+served_along revokes s before [] S P side there within admitted works = tt
+served_along revokes s before (cpu ∷ turns) S P side there within admitted works = (
   λ none. admits s before S P cpu side there none (admitted.0 none),
   admitted.1,
-  by_own (own_turn S (run (boot s) before) cpu) refl (λ later. subst (λ (l : KernelState). AreAdmitted S P l turns → AreAtWorkTimeless false S l turns → AreServed S P l turns) next
-      (λ admitted_later works_later. served_along s (before ++ cpu ∷ []) turns S P (subst (λ (l : KernelState). IsSide l (Of S) (Of P)) (sym next) later)
-      (λ n p. subst (λ (l : KernelState). IsSome (slice_get l.objects n)) (sym next) (stays_there n p)) admitted_later works_later) admitted.2 works.1),
+  within,
+  by_own (own_turn S (run (boot s) before) cpu) refl (λ later derives. subst (λ (l : KernelState). AreAdmitted S P l turns → AreAtWorkTimeless revokes S l turns → AreServed revokes S P l turns) next
+      (λ admitted_later works_later. served_along revokes s (before ++ cpu ∷ []) turns S P (subst (λ (l : KernelState). IsSide l (Of S) (Of P)) (sym next) later)
+      (λ n p. subst (λ (l : KernelState). IsSome (slice_get l.objects n)) (sym next) (stays_there n p))
+      (λ yes. subst (λ (l : KernelState). DerivesWithin l (Of S)) (sym next) (derives yes)) admitted_later works_later) admitted.2 works.1),
 )
   where
     next : run (boot s) (before ++ cpu ∷ []) ≡ after (run (boot s) before) cpu
@@ -96,13 +100,18 @@ served_along s before (cpu ∷ turns) S P side there admitted works = (
         let o = some_there (slice_get (run (boot s) before).objects n) (there n p) in
         subst IsSome (sym (object_stays (run (boot s) before) cpu n (slice_get_within (run (boot s) before).objects n o.0 o.1))) (there n p)
 
-    by_own : (o : Option (ℕ × ℕ)) → own_turn S (run (boot s) before) cpu ≡ o → (IsSide (after (run (boot s) before) cpu) (Of S) (Of P) → AreServed S P (after (run (boot s) before) cpu) turns) →
-        AreServed S P (after (run (boot s) before) cpu) turns
-    by_own None is later = later (served_side (run (boot s) before) (Of S) (Of P) cpu (entry_in P (run (boot s) before) cpu) (admits s before S P cpu side there is (admitted.0 is)))
+    by_own : (o : Option (ℕ × ℕ)) → own_turn S (run (boot s) before) cpu ≡ o →
+        (IsSide (after (run (boot s) before) cpu) (Of S) (Of P) → (revokes ≡ true → DerivesWithin (after (run (boot s) before) cpu) (Of S)) → AreServed revokes S P (after (run (boot s) before) cpu) turns) →
+        AreServed revokes S P (after (run (boot s) before) cpu) turns
+    by_own None is later =
+        later (served_side (run (boot s) before) (Of S) (Of P) cpu (entry_in P (run (boot s) before) cpu) (admits s before S P cpu side there is (admitted.0 is)))
+        (λ yes. admitted_derives s before S P cpu (within yes) (admitted.0 is))
     by_own (Some p) is later =
         let k = run (boot s) before in
         let sound = reached_sound s before in
         let twins : AreTwins k k S P = record { side = side; alike = alike_itself k S P; first = sound; second = sound } in
         let its = own_is S k cpu p.0 p.1 is in
-        later (own_side k k S P cpu p.0 p.1 twins is
-        (working_both (RevokesNothing k (Of S)) (false ≡ true) k k S P p.0 twins (own_there S k (Of P) cpu p.0 p.1 sound side its) its.of (works.0 p.0 p.1 is) (admitted.1 p.0 p.1 is) (admitted.1 p.0 p.1 is) (λ no. absurd (cc))))
+        let working : IsAtWork (HasSameClock k k p.0) (AreGivingWithin k k (Of S) p.0) (AreRevokingWithin k k (Of S)) k p.0 =
+        working_both (RevokesNothing k (Of S)) (revokes ≡ true) k k S P p.0 twins (own_there S k (Of P) cpu p.0 p.1 sound side its) its.of (works.0 p.0 p.1 is) (admitted.1 p.0 p.1 is) (admitted.1 p.0 p.1 is)
+        (λ yes. revoking_itself k (Of S) sound (within yes)) in
+        later (own_side k k S P cpu p.0 p.1 twins is working) (λ yes. own_derives_too k S P cpu p.0 p.1 twins is working (within yes))

@@ -166,16 +166,16 @@ paid_so k P cpu ec sc g actor n p d made stirs =
     by_test false is = paid_other k.budgets sc _ _ n (entry (slice_get k.budgets sc)) (λ same. not_of P sc is (subst (λ (m : ℕ). P m ≡ true) same p))
 
 -- such a deed makes nothing, gives no items, takes nothing and stores nothing, and changes just this semaphore and deadline
-record IsPlain (k : KernelState) (ec : ℕ) (g : Gift) (d : Deed) : Type 0 where
+pub record IsPlain (k : KernelState) (ec : ℕ) (g : Gift) (d : Deed) : Type 0 where
   made : made_by d ≡ None
-  branch : branch_by k ec d ≡ None
+  pub branch : branch_by k ec d ≡ None
   transfer : transfer_by k ec d ≡ None
   identifier : identifier_by d ≡ None
   store : store_by k ec d ≡ None
   semaphore : semaphore_by ec d ≡ gift_semaphore (Some g)
   deadline : deadline_by ec d ≡ gift_deadline (Some g)
 
-plain : (k : KernelState) (ec : ℕ) (d : Deed) (g : Gift) → gift_of k ec d ≡ Some g → IsPlain k ec g d
+pub plain : (k : KernelState) (ec : ℕ) (d : Deed) (g : Gift) → gift_of k ec d ≡ Some g → IsPlain k ec g d
 plain k ec (deeds.Replies caller mark.Call false) g is =
     subst (λ (g : Gift). IsPlain k ec g (deeds.Replies caller mark.Call false)) (same_Some (Answer ec caller (copied (message k ec) no_words)) g is)
     (record { made = refl; branch = refl; transfer = refl; identifier = refl; store = refl; semaphore = refl; deadline = refl })
@@ -248,6 +248,11 @@ module _ (k : KernelState) (S P : ℕ → Bool) (cpu ec sc : ℕ) (d : Deed) (st
 
 -- WHAT IS GIVEN IS ALL THAT ENTERS
 
+pub entry_same : (x e : Entry) (g : Option Gift) (payer : Option ℕ) → if_enters x g payer ≡ Some e → x ≡ e
+entry_same x e None None h = absurd (cc)
+entry_same x e (Some g) payer h = same_Some x e h
+entry_same x e None (Some payer) h = same_Some x e h
+
 pub gives : (k : KernelState) (S P : ℕ → Bool) (cpu : ℕ) (e : Entry) → IsSound k → IsSide k (Of S) (Of P) → entry_in P k cpu ≡ Some e → IsSome e.gift → IsEntered k (Of S) (Of P) cpu e
 gives k S P cpu e sound side is some = by_next (next_to_act k cpu) refl is
   where
@@ -270,13 +275,8 @@ gives k S P cpu e sound side is some = by_next (next_to_act k cpu) refl is
               side = subst (λ (l : KernelState). IsSide l (Of S) (Of P)) (sym (chosen_turn k cpu c chosen)) (turn_side k S P cpu c.actor c.sc d stirs g its given side);
             })
 
-    entry_same : (x : Entry) (g : Option Gift) (payer : Option ℕ) → if_enters x g payer ≡ Some e → x ≡ e
-    entry_same x None None h = absurd (cc)
-    entry_same x (Some g) payer h = same_Some x e h
-    entry_same x None (Some payer) h = same_Some x e h
-
     by_next : (o : Option Candidate) → next_to_act k cpu ≡ o → option_and_then (entry_by P k) o ≡ Some e → IsEntered k (Of S) (Of P) cpu e
     by_next None chosen h = absurd (cc)
     by_next (Some c) chosen h =
-        let same : entry_of P k c ≡ e = entry_same (entry_of P k c) (entry_of P k c).gift (entry_of P k c).payer h in
+        let same : entry_of P k c ≡ e = entry_same (entry_of P k c) e (entry_of P k c).gift (entry_of P k c).payer h in
         by_gift c chosen (gift_of k c.actor (deed k c.actor)) refl (subst (λ (x : Entry). IsSome x.gift) (sym same) some) (sym same)

@@ -3,6 +3,7 @@ pub mod Entering
 pub mod Giving
 pub mod Computing
 pub mod Strangers
+pub mod Deriving
 pub mod Admitting
 pub mod Along
 pub mod Meeting

@@ -28,10 +28,12 @@ use Rattle.nova_model.specs.declared.deed.Deed.TheVariants.{Steps}
 use Rattle.nova_model.specs.declared.delegation.Derivation.{Derivation}
 use Rattle.nova_utcb.specs.Messages.{copied, exited}
 use Rattle.law_forest.proofs.Members.{IsIn, all_at, in_from_contains}
+use Rattle.law_isolation.proofs.Runs.{reached_sound}
 use Rattle.law_origins.specs.Giving.{Acts}
 use Rattle.law_integrity.specs.Confined.{Of}
 use Rattle.law_integrity.specs.Rights.{Again, AtCall, IsAsking}
-use Rattle.law_flow.specs.Flow.{AreAtWorkTimeless, GivesWithin, IsAtWork, IsSide, RevokesNothing, is_at_work, is_revoking, own_turn}
+use Rattle.law_flow.specs.Flow.{AreAtWorkTimeless, AreRevokingWithin, GivesWithin, IsAtWork, IsSide, RevokesNothing, is_at_work, is_revoking, own_turn}
+use Rattle.law_flow.proofs.Deriving.{revoking_itself, within_by}
 use Rattle.law_flow.proofs.Looking.{AllAt, IsCalm, at_all, calm_edge, calm_wait, entry_at, led, looked_up, no}
 use Rattle.law_turns.specs.Links.{caller_at as caller_of, state_at as state_of}
 use Rattle.law_service.specs.Examples.{served_tenants, tenant_domain, tenant_objects}
@@ -193,6 +195,10 @@ side = record {
   blocked = λ n sm p is. absurd (calm_wait (state_in first.contexts n) sm (calm n) is);
   members = λ n pd cpu kind event is s. fits n (Ec pd cpu kind event) is s;
 }
+
+-- nothing that others hold is made of what the tenant holds
+pub revoking : AreRevokingWithin first first (Of tenant_domain)
+revoking = revoking_itself first (Of tenant_domain) (reached_sound served_tenants (replicate 59 0)) (within_by first tenant_domain ranges_there ranges_are refl)
 
 -- AT WORK
 

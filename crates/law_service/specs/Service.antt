@@ -1,6 +1,6 @@
 -- A side that trusted servers serve: what enters its part in turns that are none of its own, and what each such entry makes of the part.
 -- `S` says which protection domains are the side's, and `P` which objects its part has: among them the handlers that serve it, of which the part has the fronts alone.
-use Rattle.std.specs.Prelude.{◌≡◌, ℕ, ◌==◌, ◌&&◌, ◌||◌, Bool, false, nat_le, List, [], ◌∷◌, Option, Some, None, option_and_then, if◌then◌else◌, Contains, IsSome, slice_get}
+use Rattle.std.specs.Prelude.{◌≡◌, ℕ, ◌==◌, ◌&&◌, ◌||◌, Bool, true, false, nat_le, List, [], ◌∷◌, Option, Some, None, option_and_then, if◌then◌else◌, Contains, IsSome, slice_get}
 use Rattle.nova_range.specs.Mtds.{names}
 use Rattle.nova_range.specs.declared.mtd.TheConstants.Mtd.{PC, LOW, HIGH}
 use Rattle.nova_range.specs.declared.status.Status.TheVariants.{Success}
@@ -29,7 +29,7 @@ use Rattle.law_forest.specs.Turns.{budgets_charged}
 use Rattle.law_origins.specs.Giving.{Acts}
 use Rattle.law_integrity.specs.Confined.{Of, Reach}
 use Rattle.law_integrity.specs.Rights.{ServesCaller}
-use Rattle.law_flow.specs.Flow.{AreAlike, GivesWithin, IsLeftAlone, IsSide, IsTimeless, own_turn}
+use Rattle.law_flow.specs.Flow.{AreAlike, DerivesWithin, GivesWithin, IsLeftAlone, IsSide, IsTimeless, own_turn}
 
 -- WHAT ENTERS
 
@@ -165,14 +165,16 @@ pub record IsStranger (k : KernelState) (S P : ℕ → Type 0) (cpu ec : ℕ) : 
 
 -- ALONG TURNS
 
--- a turn that is none of the side's leaves the part alone, where nothing enters, and else comes to no more than what enters; so each of these turns, and where the side gives items, it does so within
+-- A turn that is none of the side's leaves the part alone, where nothing enters, and else comes to no more than what enters; so each of these turns, and where the side gives items, it does so within. Where it may
+-- revoke, nothing that others hold is made of what it holds.
 abbrev pub IsServedBy : KernelState → (ℕ → Type 0) → (ℕ → Type 0) → ℕ → Option Entry → Type 0
 IsServedBy k S P cpu None = IsLeftAlone k S P cpu
 IsServedBy k S P cpu (Some e) = IsEntered k S P cpu e
 
-abbrev pub AreServed : (ℕ → Bool) → (ℕ → Bool) → KernelState → List ℕ → Type 0
-AreServed S P k [] = Unit {0}
-AreServed S P k (cpu ∷ turns) = (own_turn S k cpu ≡ None → IsServedBy k (Of S) (Of P) cpu (entry_in P k cpu)) × GivesWithin S k cpu × AreServed S P (after k cpu) turns
+abbrev pub AreServed : Bool → (ℕ → Bool) → (ℕ → Bool) → KernelState → List ℕ → Type 0
+AreServed revokes S P k [] = Unit {0}
+AreServed revokes S P k (cpu ∷ turns) =
+    (own_turn S k cpu ≡ None → IsServedBy k (Of S) (Of P) cpu (entry_in P k cpu)) × GivesWithin S k cpu × (revokes ≡ true → DerivesWithin k (Of S)) × AreServed revokes S P (after k cpu) turns
 
 -- what happens to the part: a turn of the side's, by who acts and who pays, or an entry; and along turns, in order
 pub data Happening : Type 0 where

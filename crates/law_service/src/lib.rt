@@ -13,9 +13,9 @@ ghost use Rattle.nova_model.specs.declared.deed.Deed.TheVariants.{Steps};
 ghost use Rattle.law_isolation.specs.Sound.{IsSound};
 ghost use Rattle.law_origins.specs.Giving.{Acts};
 ghost use Rattle.law_integrity.specs.Confined.{Of};
-ghost use Rattle.law_flow.specs.Flow.{AreAlike, AreAlikeAlong, AreAtWorkTimeless, IsSide, IsTimeless, own_turn};
+ghost use Rattle.law_flow.specs.Flow.{AreAlike, AreAlikeAlong, AreAtWorkTimeless, AreDerivedAlike, AreRevokingWithin, DerivesWithin, IsSide, IsTimeless, own_turn};
 ghost use Rattle.law_service.specs.Examples.{served_tenants, tenant_domain, tenant_objects};
-ghost use Rattle.law_service.specs.Service.{AreAdmitted, AreServed, Enters, Entry, IsEntered, IsServedBy, IsStranger, IsWalled, Own, Return, course, entered, entry_in};
+ghost use Rattle.law_service.specs.Service.{AreAdmitted, AreServed, Enters, Entry, IsAdmitted, IsEntered, IsServedBy, IsStranger, IsWalled, Own, Return, course, entered, entry_in};
 
 /// Equal entries change a side's part alike. With the same entry in two states whose part is the same it is the same again; and so it is after two
 /// turns that come to no more than that entry, whichever contexts act in them.
@@ -62,30 +62,41 @@ pub fn what_comes_by_itself_leaves_a_side_alone()
 {}
 
 /// Unwinding with entries: two runs in which the same happens to a side's part end with the same part. Take two runs, from sound states in which a
-/// side's part is the same, in which the same happens to it, in the same order: its own turns, in which it is at work without deadlines and revokes, by the
+/// side's part is the same, in which the same happens to it, in the same order: its own turns, in which it is at work without deadlines, by the
 /// context that acts and the scheduling context that pays, and entries. Let each other turn leave the part alone, and those with an entry come to no
-/// more than it. At their ends its part is the same, and so was all that it did: however many turns of others came, when they came, and whatever
-/// they, and servers among themselves and for others, did.
+/// more than it. If the side may revoke, its ranges were made of each other alike and in one order in both states, and all that is made of them is
+/// its own along both runs. At their ends its part is the same, and so was all that it did: however many turns of others came, when they came, and
+/// whatever they, and servers among themselves and for others, did.
 pub fn unwinding_with_entries()
-    ensures { (k l : KernelState) (turns others : List ℕ) (S P : ℕ → Bool) → IsSound k → IsSound l
-        → IsSide k (Of S) (Of P) → AreAlike k l (Of S) (Of P)
-        → AreServed S P k turns → AreServed S P l others → AreAtWorkTimeless false S k turns
+    ensures { (revokes : Bool) (k l : KernelState) (turns others : List ℕ) (S P : ℕ → Bool) → IsSound k → IsSound l
+        → IsSide k (Of S) (Of P) → AreAlike k l (Of S) (Of P) → (revokes ≡ true → AreDerivedAlike k l (Of S))
+        → AreServed revokes S P k turns → AreServed revokes S P l others → AreAtWorkTimeless revokes S k turns
         → course S P k turns ≡ course S P l others
         → AreAlikeAlong k l turns others S P }
 {}
 
+/// Beside servers nothing of others comes to be made of what a side holds. Take a state that turns reach from a boot state, in which nothing that
+/// others hold is made of what the side holds, and a turn that is none of the side's and is admitted. So it is after that turn.
+pub fn admitted_turns_make_nothing_of_a_sides_ranges()
+    ensures { (scenario : Scenario) (turns : List ℕ) (S P : ℕ → Bool) (cpu : ℕ)
+        → DerivesWithin (run (boot scenario) turns) (Of S) → IsAdmitted (run (boot scenario) turns) S P cpu
+        → DerivesWithin (after (run (boot scenario) turns) cpu) (Of S) }
+{}
+
 /// Noninterference beside servers: a side's part doesn't depend on strangers, nor on what servers do for them. Take two runs, of any two scenarios, a
-/// place in each, and a side whose part is the same at both places, and there. From there on, in both, let it be at work without deadlines and revokes, and let
+/// place in each, and a side whose part is the same at both places, and there. From there on, in both, let it be at work without deadlines, and let
 /// each turn that is none of the side's be a stranger's, a turn in which it is given something, a turn in which a server computes and writes to no
-/// frame that the side sees, or a turn in which none acts. If the same happens to the side, in the same order, its part is the same at the ends, and
-/// so is all that it did: whatever strangers are and do in each, and servers for them.
+/// frame that the side sees, or a turn in which none acts. If the side may revoke, at neither place anything that others hold was made of what it
+/// holds, and its ranges were made of each other alike and in one order. If the same happens to the side, in the same order, its part is the same at
+/// the ends, and so is all that it did: whatever strangers are and do in each, and servers for them.
 pub fn noninterference_beside_servers()
-    ensures { (a b : Scenario) (before since turns others : List ℕ) (S P : ℕ → Bool)
+    ensures { (revokes : Bool) (a b : Scenario) (before since turns others : List ℕ) (S P : ℕ → Bool)
         → IsSide (run (boot a) before) (Of S) (Of P) → IsSide (run (boot b) since) (Of S) (Of P)
         → ((n : ℕ) → P n ≡ true → IsSome (slice_get (run (boot a) before).objects n))
         → AreAlike (run (boot a) before) (run (boot b) since) (Of S) (Of P)
+        → (revokes ≡ true → AreRevokingWithin (run (boot a) before) (run (boot b) since) (Of S))
         → AreAdmitted S P (run (boot a) before) turns → AreAdmitted S P (run (boot b) since) others
-        → AreAtWorkTimeless false S (run (boot a) before) turns → AreAtWorkTimeless false S (run (boot b) since) others
+        → AreAtWorkTimeless revokes S (run (boot a) before) turns → AreAtWorkTimeless revokes S (run (boot b) since) others
         → course S P (run (boot a) before) turns ≡ course S P (run (boot b) since) others
         → AreAlikeAlong (run (boot a) before) (run (boot b) since) turns others S P }
 {}
@@ -96,6 +107,7 @@ pub fn noninterference_beside_servers()
 /// which is a stranger.
 pub fn a_served_run_comes_to_the_premises()
     ensures part { IsSide (run (boot served_tenants) (replicate 59 0)) (Of tenant_domain) (Of tenant_objects) }
+    ensures revoking { AreRevokingWithin (run (boot served_tenants) (replicate 59 0)) (run (boot served_tenants) (replicate 59 0)) (Of tenant_domain) }
     ensures admitted { AreAdmitted tenant_domain tenant_objects (run (boot served_tenants) (replicate 59 0)) (replicate 4 0) }
     ensures works { AreAtWorkTimeless false tenant_domain (run (boot served_tenants) (replicate 59 0)) (replicate 4 0) }
     ensures happens { course tenant_domain tenant_objects (run (boot served_tenants) (replicate 59 0)) (replicate 4 0)

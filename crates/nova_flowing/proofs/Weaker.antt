@@ -1,4 +1,4 @@
--- What gives nothing is at work.
+-- What neither gives nor revokes is at work.
 use Rattle.std.proofs.Common.{◌≡◌, ℕ, List, [], ◌∷◌}
 use Rattle.std.specs.Prelude.{Bool, false, true}
 use Rattle.nova_model.specs.Runs.{after}

@@ -1,4 +1,4 @@
--- Lines that tell of each side whether the premises hold, and until when it is at work.
+-- Lines that tell of each side whether the premises hold, and until when it is at work, and neither gives nor revokes.
 use Rattle.std.specs.Prelude.{ℕ, ◌==◌, ◌&&◌, Bool, not, if◌then◌else◌, List, [], ◌++◌, codes, decimal, flat_map, Option, Some, None}
 use Rattle.std.specs.List.{enumerate_from, position, range_with_len}
 use Rattle.nova_model.specs.State.{KernelState}
@@ -62,7 +62,7 @@ home_text C cpu = if C cpu then codes " " ++ decimal cpu else []
 abbrev pub homes_text : (ℕ → Bool) → ℕ → List ℕ
 homes_text C cpus = flat_map (home_text C) (range_with_len 0 cpus)
 
--- until when it is at work
+-- until when it is at work, and neither gives nor revokes
 abbrev pub lapse_text : ℕ → ℕ → LapseKind → List ℕ
 lapse_text turn ec Creates = codes " at work until turn " ++ (decimal turn ++ (codes ": ec " ++ (decimal ec ++ (codes " creates" ++ line_feed))))
 lapse_text turn ec Gives = codes " at work until turn " ++ (decimal turn ++ (codes ": ec " ++ (decimal ec ++ (codes " gives" ++ line_feed))))

@@ -1,4 +1,4 @@
--- Until which turn of a run a side is at work and gives nothing.
+-- Until which turn of a run a side is at work, and neither gives nor revokes.
 use Rattle.std.specs.Prelude.{◌≡◌, ℕ, ◌+◌, Bool, List, [], ◌∷◌, ◌++◌, find, length, Option, Some, None, Result, Ok}
 use Rattle.std.specs.Option.{option_or}
 use Rattle.nova_calls.specs.Hypercalls.{call_of}
@@ -14,7 +14,7 @@ use Rattle.nova_flowing.specs.declared.lapse.Lapse.{Lapse}
 use Rattle.nova_flowing.specs.declared.lapse.LapseKind.{LapseKind}
 use Rattle.nova_flowing.specs.declared.lapse.LapseKind.TheVariants.{Creates, Gives, Revokes}
 
--- what a context does in this state, and asks for by this call, that is not so
+-- what a context does in this state, and asks for by this call: it creates, gives or revokes
 abbrev pub kind_in : State → Option LapseKind
 kind_in (Granting new) = Some Gives
 kind_in Replying = Some Gives
@@ -33,7 +33,7 @@ kind_of other = None
 abbrev pub kind_at : KernelState → ℕ → Option LapseKind
 kind_at k ec = option_or (kind_in (context k ec).state) (kind_of (call_of (context k ec).regs))
 
--- a turn of its own is at work by the law, and gives nothing: what the law asks of a side that gives is of all its contexts
+-- A turn of its own is at work by the law, and neither gives nor revokes. What the law asks of a side that does is of all its contexts, and of all that others hold.
 abbrev pub IsWorking : KernelState → ℕ → Type 0
 IsWorking k ec = IsAtWork (Unit {0}) ⊥ ⊥ k ec
 
@@ -41,7 +41,7 @@ abbrev pub AreWorking : (ℕ → Bool) → KernelState → List ℕ → Type 0
 AreWorking S k [] = Unit {0}
 AreWorking S k (cpu ∷ turns) = ((ec sc : ℕ) → own_turn S k cpu ≡ Some (ec, sc) → IsWorking k ec) × AreWorking S (after k cpu) turns
 
--- Of a run of which `n` turns were taken before: the first of these turns that is the side's and in which it is not at work.
+-- Of a run of which `n` turns were taken before: the first of these turns that is the side's and in which it creates, gives or revokes.
 pub record HasLapsed (S : ℕ → Bool) (k : KernelState) (n : ℕ) (turns : List ℕ) (l : Lapse) : Type 0 where
   pub taken : List ℕ
   pub cpu : ℕ

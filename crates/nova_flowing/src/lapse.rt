@@ -1,4 +1,4 @@
-/// What an execution context does that is not at work, in the meaning of `AreAtWork`.
+/// What an execution context does that makes its turn none of `AreWorking`. By `AreAtWork` a side may give and revoke, too, on conditions.
 #[derive(Clone, Copy)]
 pub enum LapseKind {
     /// It makes an object.
@@ -9,7 +9,7 @@ pub enum LapseKind {
     Revokes,
 }
 
-/// A turn in which an execution context is not at work: the turn, counted from 1, the execution context, its protection domain, and what it does.
+/// A turn in which an execution context creates, gives or revokes: the turn, counted from 1, the execution context, its protection domain, and which it does.
 #[derive(Clone, Copy)]
 pub struct Lapse {
     pub turn: u64,

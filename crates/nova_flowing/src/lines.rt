@@ -83,7 +83,7 @@ fn write_homes(out: &mut String, home: &[bool], cpus: u32) -> Result<(), AllocEr
     Ok(())
 }
 
-/// Until which turn a side is at work, and what is done then.
+/// Until which turn a side is at work, and neither gives nor revokes, and what is done then.
 fn write_lapse(out: &mut String, turn: u64, ec: u32, kind: LapseKind) -> Result<(), AllocError>
     ensures { OnOk result (string_bytes out.new ≡ string_bytes out.old ++ lapse_text turn ec kind) }
 {
@@ -94,7 +94,7 @@ fn write_lapse(out: &mut String, turn: u64, ec: u32, kind: LapseKind) -> Result<
     }
 }
 
-/// Until when a side is at work.
+/// Until when a side is at work, and neither gives nor revokes.
 fn write_work(out: &mut String, lapse: Option<Lapse>) -> Result<(), AllocError>
     ensures { OnOk result (string_bytes out.new ≡ string_bytes out.old ++ work_text lapse) }
 {

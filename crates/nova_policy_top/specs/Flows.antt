@@ -1,4 +1,4 @@
--- Lines that tell of each side whether the premises of noninterference on divided processors hold in a state, and until when it is at work.
+-- Lines that tell of each side whether the premises of noninterference on divided processors hold in a state, and until when it is at work, and neither gives nor revokes.
 use Rattle.std.specs.Prelude.{◌≡◌, ◌⊎◌, ℕ, ◌++◌, Bool, true, false, List, [], drop, length, take, Option, Some, None, string_bytes}
 use Rattle.nova_model.specs.Runs.{IsFreeOfIdle, run}
 use Rattle.nova_model.specs.State.{KernelState}
@@ -32,7 +32,7 @@ abbrev pub AreFlows : Option (List Stated) → KernelState → List Lapse → Li
 AreFlows None k lapses text = AreFinestFlows trusted_root k lapses text
 AreFlows (Some policy) k lapses text = text ≡ flow_lines policy k lapses (labels_of policy k)
 
--- The lines of the state after the first of these turns, at most so many. Until when a side is at work is told of the turns after these, by the law's own definition: of each set of domains the first of
+-- The lines of the state after the first of these turns, at most so many. Until when a side is at work, and neither gives nor revokes, is told of the turns after these, by the law's own definition: of each set of domains the first of
 -- the lapses is the first turn in which it isn't.
 pub record AreFlowsOn (policy : Option (List Stated)) (k : KernelState) (from : ℕ) (list text : List ℕ) : Type 0 where
   pub no_idle : IsFreeOfIdle k list

@@ -120,7 +120,7 @@ fn run_part(
     }
 }
 
-/// In which turns of an order, after so many, execution contexts aren't at work.
+/// In which turns of an order, after so many, execution contexts create, give or revoke.
 fn lapses_after(
     alloc: Global,
     scenario: &Scenario,
@@ -158,7 +158,7 @@ fn told_flowing(
     Ok(with_lines(told, &lines)?)
 }
 
-/// What is told of the state after the first turns of a run, with its flows, and until which of the others sides are at work.
+/// What is told of the state after the first turns of a run, with its flows, and until which of the others sides are at work, and neither give nor revoke.
 fn told_part(
     alloc: Global,
     scenario: &Scenario,
@@ -199,7 +199,7 @@ fn told_with(
 }
 
 /// What the sides of a policy are in the first state of a span of a scenario's run in which they aren't isolated, or else in the last; or where flows
-/// are asked for what they are in its first, with these, and until when they are at work.
+/// are asked for what they are in its first, with these, and until when they are at work, and neither give nor revoke.
 pub fn decide(
     alloc: Global,
     scenario: &Scenario,

@@ -1,4 +1,4 @@
-// Lines that tell of each side whether the premises of noninterference on divided processors hold, and until when it is at work.
+// Lines that tell of each side whether the premises of noninterference on divided processors hold, and until when it is at work, and neither gives nor revokes.
 ghost use Rattle.std.specs.Prelude.{◌≡◌, ◌≤◌, ◌<◌, ◌^◌, [], IfOk, length, string_bytes};
 ghost use Rattle.nova_judging.specs.Answers.{AreSettled, ties_beside};
 ghost use Rattle.nova_judging.specs.Labelled.{labelled, labels_of};
@@ -112,7 +112,7 @@ fn flows_finest(alloc: Global, kernel: &Kernel, lapses: &[Lapse]) -> Result<Stri
     flows_settled(alloc, &policy, kernel, lapses, &tied, &mut labels)
 }
 
-/// The lines of the sides of a policy, or of the finest where there is no policy, with until when they are at work.
+/// The lines of the sides of a policy, or of the finest where there is no policy, with until when they are at work, and neither give nor revoke.
 pub fn flows_of(
     alloc: Global,
     policy: &Option<Policy>,

@@ -34,7 +34,7 @@ pub struct Request {
     pub policy: Option<Name>,
 
     /// Whether is told of each side if the premises of noninterference on divided processors hold of it after the first of the turns, and until which one
-    /// it is at work.
+    /// it is at work, and neither gives nor revokes.
     pub flow: bool,
 }
 

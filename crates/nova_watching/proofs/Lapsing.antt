@@ -98,7 +98,7 @@ module _ (S : ℕ → Bool) where
     turn = h.turn;
   }
 
-  -- the next turn: it was not at work before, or is now, or comes to this
+  -- the next turn: it created, gave or revoked before, or does nothing of it now, or comes to this
   next_told : (k : KernelState) (n : ℕ) (xs : List ℕ) (cpu : ℕ) (o r : Option Lapse) → IsWorkTold S k n xs o → IsTurnTold (run k xs) cpu (n + length xs) r →
       IsWorkTold S k n (xs ++ cpu ∷ []) (option_or o (of_side S r))
   next_told k n xs cpu (Some l) r told turn = lapse_kept k n xs cpu l told

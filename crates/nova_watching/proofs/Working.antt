@@ -1,4 +1,4 @@
--- Whether who acts in a turn is at work: by its state, and where it makes a hypercall by that, which is seen of the event.
+-- Whether who acts in a turn creates, gives or revokes: by its state, and where it makes a hypercall by that, which is seen of the event.
 use Rattle.std.proofs.Common.{◌≡◌, ◌⊎◌, ℕ, ◌-◌, refl, sym, ap, ◌∙◌, subst, inl, inr, arith}
 use Rattle.std.specs.Prelude.{◌==◌, ◌&&◌, Bool, true, false, not, nat_le, nat_lt, Option, Some, None, option_and_then, option_map, if◌then◌else◌, Result, Ok, Err}
 use Rattle.std.specs.Option.{option_or}

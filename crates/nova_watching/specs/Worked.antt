@@ -1,4 +1,4 @@
--- Who isn't at work in a turn, and of a run the first turn of each protection domain in which it isn't.
+-- Who creates, gives or revokes in a turn, and of a run the first turn of each protection domain in which it does.
 use Rattle.std.specs.Prelude.{◌≡◌, ◌≤◌, ◌⊎◌, ℕ, ◌+◌, ◌==◌, Bool, true, false, not, List, [], ◌++◌, length, if◌then◌else◌, option_and_then, option_map, Option, Some, None}
 use Rattle.std.specs.Option.{option_or}
 use Rattle.nova_calls.specs.Hypercalls.{call_of}
@@ -63,7 +63,7 @@ own_lapse n None turn = None
 own_lapse n (Some d) Idle = None
 own_lapse n (Some d) (Stepped e) = lapse_by n d (lapse_kind d e.kind)
 
--- who acts isn't at work, in the turn after so many
+-- who acts creates, gives or revokes, in the turn after so many
 pub record IsLapse (k : KernelState) (cpu n : ℕ) (l : Lapse) : Type 0 where
   pub chosen : Candidate
   pub next : next_to_act k cpu ≡ Some chosen
@@ -83,7 +83,7 @@ abbrev pub of_side : (ℕ → Bool) → Option Lapse → Option Lapse
 of_side S None = None
 of_side S (Some l) = if S l.pd then Some l else None
 
--- The turns were taken, and after so many of them each side is at work, but for the first of the list that is of it.
+-- The turns were taken, and after so many of them each side is at work, and neither gives nor revokes, until the first of the list that is of it.
 pub record AreLapses (from : ℕ) (k : KernelState) (turns : List ℕ) (list : List Lapse) : Type 0 where
   pub before : List ℕ
   pub since : List ℕ

@@ -1,4 +1,4 @@
-// Until which turn of a run sides are at work.
+// Until which turn of a run sides are at work, and neither give nor revoke.
 ghost use Rattle.std.specs.Prelude.{◌≡◌, ◌+◌, ◌<◌, ◌≤◌, ◌^◌, ◌==◌, ◌∷◌, [], ℕ, Bool, IfOk, IsTrue, OnOk, None, Some, false, option_copied, option_map, replicate, slice_get};
 ghost use Rattle.std.specs.List.{list_any};
 ghost use Rattle.std.specs.Option.{option_or};
@@ -17,7 +17,7 @@ use nova_order::{Block, Order};
 use nova_range::Status;
 use std::alloc::{AllocError, Global};
 
-/// Who acts in a processor's next turn: its number, protection domain and state, and what of its call would not be at work, if it made one.
+/// Who acts in a processor's next turn: its number, protection domain and state, and whether its call would create or revoke, if it made one.
 #[derive(Clone, Copy)]
 pub struct Doer {
     pub ec: u32,
@@ -26,7 +26,7 @@ pub struct Doer {
     pub call: Option<LapseKind>,
 }
 
-/// What is not at work of a state.
+/// Whether a context in a state gives or revokes.
 fn kind_in(state: State) -> Option<LapseKind>
     ensures { result ≡ kind_in state }
 {
@@ -37,7 +37,7 @@ fn kind_in(state: State) -> Option<LapseKind>
     }
 }
 
-/// What is not at work of a call.
+/// Whether a call creates or revokes.
 fn kind_of(call: Result<Call, Status>) -> Option<LapseKind>
     ensures { result ≡ kind_of call }
 {
@@ -121,14 +121,14 @@ fn call_asked(call: Option<LapseKind>, asks: bool) -> Option<LapseKind>
     if asks { call } else { None }
 }
 
-/// What of a turn that came to this is not at work.
+/// Whether one creates, gives or revokes in a turn that came to this.
 fn lapse_kind(doer: Doer, kind: EventKind) -> Option<LapseKind>
     ensures { result ≡ lapse_kind doer kind }
 {
     kind_in(doer.state).or(call_asked(doer.call, asks_in(doer.state, kind)))
 }
 
-/// The turn, after so many, that came to this event, if it is not at work.
+/// The turn, after so many, that came to this event, if one creates, gives or revokes in it.
 fn lapse_by(doer: Doer, event: Event, done: u64) -> Option<Lapse>
     requires { done + 1 < 2 ^ 64 }
     ensures { result ≡ lapse_by done doer (lapse_kind doer event.kind) }
@@ -154,7 +154,7 @@ fn own_lapse(doer: Option<Doer>, turn: Turn, done: u64) -> Option<Lapse>
     }
 }
 
-/// Takes a turn, after so many, and tells whether who acts is at work.
+/// Takes a turn, after so many, and tells whether who acts creates, gives or revokes.
 fn told_turn(kernel: &mut Kernel, cpu: u32, done: u64) -> Result<Option<Lapse>, AllocError>
     requires cpu { cpu < kernel.old.state.cpus }
     requires room { 0 < kernel.old.room }
@@ -266,7 +266,7 @@ fn work_blocks(
 }
 
 /// Takes the turns of `order` from the present state of `kernel` on, and tells in which of them, after `from` turns of it at least, execution contexts
-/// weren't at work: of each protection domain the first. The order is of processors that are there, and there is room in the log for its turns. The only
+/// created, gave or revoked: of each protection domain the first. The order is of processors that are there, and there is room in the log for its turns. The only
 /// refusal is of memory; the kernel has then taken some of the turns.
 pub fn lapses_of(
     alloc: Global,

@@ -18,7 +18,7 @@ sys.path.insert(0, str(TOOL))
 
 from leaks import LEAKS  # noqa: E402
 from parts import difference, free_part, part  # noqa: E402
-from premises import at_work, broken  # noqa: E402
+from premises import at_work, broken, revoking_within  # noqa: E402
 from scenarios import Fixed, SetUp, word  # noqa: E402
 
 PROGRAM = TOP / "crates" / "nova" / "out" / "nova"
@@ -99,7 +99,33 @@ class Premises(unittest.TestCase):
         self.assertEqual(at_work(works), set())
         self.assertEqual(at_work([*works, ["1", "22", "answer", "6", "8"]]), {"IsAtWork.calls"})
         self.assertEqual(at_work([*works, ["1", "18", "made", "52", "33"], ["1", "18", "xlat", "0", "0"]]), set())
-        self.assertEqual(at_work([*works, ["1", "22", "gone", "52", "7"]]), {"IsAtWork.state"})
+        self.assertEqual(at_work([*works, ["1", "22", "gone", "0", "7"]]), {"IsAtWork.revokes"})
+
+    def test_a_side_that_may_revoke_gives_while_it_revokes_nothing(self) -> None:
+        revokes = [["1", "22", "begin", "7", "256"], ["1", "22", "gone", "0", "7"], ["1", "22", "answer", "7", "0"]]
+        gives = ["1", "18", "made", "0", "0"]
+        self.assertEqual(at_work([*revokes, gives], revokes=True), set())
+        self.assertEqual(at_work([*revokes[:2], gives, revokes[2]], revokes=True), {"IsAtWork.gives"})
+        self.assertEqual(at_work([["1", "22", "answer", "6", "8"]], revokes=True), {"IsAtWork.calls"})
+
+    def test_what_others_made_of_the_sides_ranges_is_found(self) -> None:
+        report = self.report(SetUp(walled=True))
+        caps = [line.split() for line in report.splitlines() if line.startswith("cap") and line.split()[4] == "mem" and line.split()[3] != "0"]
+        domains = sorted({int(words[3]) for words in caps})
+        ours, theirs = (next(words for words in caps if int(words[3]) == domain) for domain in domains)
+        child = " ".join([*theirs[:2], ours[1], *theirs[3:]])
+        self.assertEqual(revoking_within([report, report]), set())
+        self.assertEqual(revoking_within([report, report.replace(" ".join(theirs), child)]), {"DerivesWithin"})
+
+    def test_ranges_that_were_made_in_another_order_or_of_another_are_found(self) -> None:
+        report = self.report(SetUp(walled=True))
+        domain = min(int(line.split()[3]) for line in report.splitlines() if line.startswith("cap") and line.split()[4] == "mem" and line.split()[3] != "0")
+        older, newer = [line for line in report.splitlines() if line.startswith("cap") and line.split()[3] == str(domain)][:2]
+        first, second = older.split(), newer.split()
+        swapped = report.replace(older, " ".join(["cap", second[1], *first[2:]])).replace(newer, " ".join(["cap", first[1], *second[2:]]))
+        child = report.replace(newer, " ".join(["cap", second[1], first[1], *second[3:]]))
+        self.assertEqual(revoking_within([report, swapped]), {"AreDerivedAlike.order"})
+        self.assertEqual(revoking_within([report, child]), {"AreDerivedAlike.children"})
 
 
 class Runs(unittest.TestCase):
@@ -111,6 +137,10 @@ class Runs(unittest.TestCase):
 
     def test_sides_at_work_behind_walls_are_the_same(self) -> None:
         status, said = tells("--walled", "--count", "10", "--turns", "800")
+        self.assertEqual((status, said.split()[:4]), (0, ["same", "10", "different", "0"]))
+
+    def test_sides_that_give_and_revoke_behind_walls_are_the_same(self) -> None:
+        status, said = tells("--revokes", "--count", "10", "--turns", "800")
         self.assertEqual((status, said.split()[:4]), (0, ["same", "10", "different", "0"]))
 
     def test_each_leak_breaks_its_premises_alone_and_is_seen(self) -> None:

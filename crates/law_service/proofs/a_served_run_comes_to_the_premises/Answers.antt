@@ -1,10 +1,13 @@
 use Rattle.std.proofs.Common.{◌∙◌, sym}
 use Rattle.law_service.proofs.Between.{admitted_between, courses_between, works_between}
-use Rattle.law_service.proofs.Meeting.{admitted, courses, side, works}
+use Rattle.law_service.proofs.Meeting.{admitted, courses, revoking, side, works}
 use Rattle.law_service.proofs.a_served_run_comes_to_the_premises.Goals as goal
 
 pub returns-clause-part : goal.returns-clause-part
 returns-clause-part c = side
+
+pub returns-clause-revoking : goal.returns-clause-revoking
+returns-clause-revoking c = revoking
 
 pub returns-clause-admitted : goal.returns-clause-admitted
 returns-clause-admitted c = admitted
