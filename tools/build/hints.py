@@ -32,12 +32,13 @@ POLICY_HELP = f"""\
 ./nova-policy SCENARIO        which protection domains are isolated from which, at the end of a run
   --at TURN                   after turn TURN, 0 to {MOST_TURNS:,} ({TURNS:,}, or the end of the run)
   --until TURN                in the first state up to turn TURN in which they aren't, from --at on (0); else in the last
-  --flow TURN                 after turn TURN, and of each side whether nothing of the others reaches it; in place of --at
+  --flow TURN                 in place of --at, and of each side whether nothing of the others reaches it, up to --until
   --order ORDER               of the run in the order of turns of ORDER, in place of rounds
   --policy POLICY             with the sides of POLICY; without, the root's domain, 0, is trusted, and the finest sides of the others are told
 ./nova draft policy WORD..    the same at once, unproved
 
-A line of POLICY is `trusted DOMAIN ..` or `side NAME DOMAIN ..`. A domain is the number of its object: --policy /dev/null tells all there are.
+A line of POLICY is `trusted DOMAIN ..`, `side NAME DOMAIN ..`, `shared SM ..` (semaphores) or `flow FROM TO` (sides named before). Domains and
+semaphores are numbers of objects: --policy /dev/null tells all domains.
 
 Status: 0 apart, 1 served, 9 breach, 10 stuck, 11 single. Without an answer: 2 no request, 3 a file isn't read, 4 a fault of the scenario, 5 of the
 order, 6 the answer isn't written, 7 a fault of the policy, 8 out of memory. docs/SECURITY.md says what the answers mean, docs/FORMATS.md explains
@@ -265,11 +266,12 @@ class Request:
                 return found
         if len(found.names) != 1:
             found.why = f"there is a word too many: {found.names[1]!r}" if found.names else "no scenario is named"
-        first, last = (number_of(found.options.get(option, "")) for option in ("--at", "--until"))
+        begin = "--flow" if "--flow" in found.options else "--at"
+        first, last = (number_of(found.options.get(option, "")) for option in (begin, "--until"))
         if first is not None and last is not None and last < first:
-            found.why = "--until is before --at"
-        if "--flow" in found.options and not {"--at", "--until"}.isdisjoint(found.options):
-            found.why = "--flow stands in place of --at, and without --until"
+            found.why = f"--until is before {begin}"
+        if {"--flow", "--at"} <= found.options.keys():
+            found.why = "--flow stands in place of --at"
         return found
 
     def take(self, word: str, left: Iterator[str]) -> None:

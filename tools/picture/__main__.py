@@ -3,7 +3,7 @@
 python3 tools/picture run REPORT [--order FILE] [--scenario FILE] [--from TURN] [--to TURN] [--all] [--fold N] [--page] [--output FILE]
 python3 tools/picture delegations REPORT [--from TURN] [--to TURN] [--all] [--fold N] [--page] [--output FILE]
 python3 tools/picture trace REPORT [--order FILE] [--scenario FILE] [--from TURN] [--to TURN] [--output FILE.json.gz]
-python3 tools/picture sides [ANSWER] [--policy FILE] [--title TEXT] [--dot] [--output FILE]
+python3 tools/picture sides [ANSWER] [--policy FILE] [--title TEXT] [--dot] [--page] [--output FILE]
 
 With a scenario, run and trace ask nova_debug what the report doesn't tell, where that is built; [--program FILE] names another one. All take
 [--names FILE] and [--elf FILE], for names of objects.
@@ -34,7 +34,8 @@ from report import Fault, Report, read_report
 from run_picture import draw_run
 from scenario import read_settings
 from sides import Told, named_in, read_sides
-from sides_picture import dot, draw_sides
+from sides_graph import dot
+from sides_picture import draw_sides
 from skim import LARGE, Events, find_events, shorten, turns_of
 from timeline import Window
 from trace_events import text_of, trace_events
@@ -81,7 +82,7 @@ def parser() -> argparse.ArgumentParser:
         picture.add_argument("--output", type=Path, metavar="FILE", help="where to write (standard output)")
         picture.add_argument("--elf", type=Path, action="append", default=[], metavar="FILE", help="an executable whose constants name selectors")
         add_words(picture)
-    sides = pictures.add_parser("sides", help="which protection domains are isolated from which, by the answer of nova_policy")
+    sides = pictures.add_parser("sides", help="which protection domains are isolated from which, what flows and what is shared, by the answer of nova_policy")
     sides.add_argument("answer", type=Path, nargs="?", default=Path("-"), metavar="ANSWER", help="what nova_policy wrote (standard input)")
     sides.add_argument("--policy", type=Path, metavar="FILE", help="the policy that was asked for: a domain without ties is drawn in its own side, also beside a breach")
     sides.add_argument("--title", metavar="TEXT", help="what is written above it (the name of the file)")
@@ -145,8 +146,8 @@ def draw_answer(words: argparse.Namespace) -> bytes:
     named = named_in(read_text(words.policy)) if words.policy else {}
     if words.dot:
         return dot(title, told, named).encode("utf-8", "replace")
-    if len(told.ties) > LINES:
-        raise Refused(f"there are {len(told.ties)} ties: --dot writes a graph, for Graphviz")
+    if (lines := len(told.ties) + len(told.flows) + len(told.memory)) > LINES:
+        raise Refused(f"there are {lines} ties and flows: --dot writes a graph, for Graphviz")
     scene = draw_sides(title, told, named)
     return (page(scene) if words.page else svg(scene)).encode("utf-8", "replace")
 

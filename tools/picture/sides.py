@@ -8,6 +8,7 @@ from dataclasses import dataclass, field
 from report import HEAD, Fault, otherwise
 
 TRUSTED = "trusted"
+WRITE = 2
 # How many numbers a cause has, and the words between them.
 CAUSES = {
     **dict.fromkeys(("domain", "context", "portal", "scheduling"), ("cap",)),
@@ -24,7 +25,7 @@ NUMBER = re.compile(r"0|[1-9]\d*|0x[0-9a-fA-F]+")
 SIDE = re.compile(r"(trusted|side [A-Za-z0-9_-]+):((?: \d+)*)")
 ROLE = re.compile(r"domain (\d+) (at rest|bare|mute|at work)")
 SHARER = r" [A-Za-z0-9_-]+(?: up| down| waits)+"
-SHARED = re.compile(rf"shared (\d+):(?:{SHARER}(?:,{SHARER})*)?")
+SHARED = re.compile(rf"shared (\d+):((?:{SHARER}(?:,{SHARER})*)?)")
 PROCESSOR = re.compile(r"processor (\d+):((?: [A-Za-z0-9_-]+)*)")
 FLOW = re.compile(r"flow [A-Za-z0-9_-]+ (own(?: \d+)* at work (?:to the end|until turn \d+: ec \d+ (?:creates|gives|revokes))|waits ec \d+|[A-Z][A-Za-z]+\.[a-z]+(?: (?:cap|target|object|ec|processor|source|sm) \d+)+)")
 
@@ -63,6 +64,22 @@ class Tie:
 
 
 @dataclass(frozen=True, slots=True)
+class Common:
+    """Memory that two sides reach: the capabilities by which they do, as those of a tie, and the rights of each, where they are told."""
+
+    tie: Tie
+    rights: tuple[int, int] | None
+
+
+@dataclass(frozen=True, slots=True)
+class Shared:
+    """A semaphore that sides share, by the number of its object, and what each of them, or what is trusted, may do there."""
+
+    semaphore: int
+    sharers: tuple[tuple[str, str], ...]
+
+
+@dataclass(frozen=True, slots=True)
 class Link:
     """A capability, as a report tells it, and from which it came."""
 
@@ -75,7 +92,7 @@ class Link:
 @dataclass(slots=True)
 class Told:
     """What is told: the verdict with what shows it, what trusted domains are, the sides to which those named are joined or the tie for which there are none, the semaphores that they share on purpose, the memory
-    that flows from one to another, the sides that may take turns of each processor, and all ties."""
+    that flows from one to another and that two reach to read alone, the sides that may take turns of each processor, and all ties."""
 
     turn: int
     verdict: str
@@ -86,8 +103,9 @@ class Told:
     stuck: Tie | None = None
     trusted: tuple[int, ...] = ()
     sides: dict[str, tuple[int, ...]] = field(default_factory=dict)
-    shared: list[int] = field(default_factory=list)
-    flows: list[Tie] = field(default_factory=list)
+    shared: list[Shared] = field(default_factory=list)
+    flows: list[Common] = field(default_factory=list)
+    memory: list[Common] = field(default_factory=list)
     processors: list[tuple[str, ...]] = field(default_factory=list)
     ties: list[Tie] = field(default_factory=list)
 
@@ -108,12 +126,26 @@ def read_tie(text: str, line: int) -> Tie:
     return Tie(source, target, cause, tuple(map(int, rest[1::2])), strict)
 
 
-def read_flow(text: str, line: int) -> Tie:
-    """Memory that flows from one side to another: a tie by frames, but for that."""
-    tie = read_tie(text, line)
+def read_common(text: str, line: int, flows: bool) -> Common:
+    """Memory that two sides reach: that flows from the first, which may write it, or that neither may write."""
+    said, _, rights = text.partition(" rights ")
+    tie = read_tie(said, line)
     if tie.cause != "frames" or tie.strict or TRUSTED in (tie.source.side, tie.target.side) or tie.source.side == tie.target.side:
-        raise Fault(line, "this is no memory that flows")
-    return tie
+        raise Fault(line, "this is no memory of two sides")
+    if said == text:
+        return Common(tie, None)
+    if (found := re.fullmatch(r"(\d+) (\d+)", rights)) is None:
+        raise Fault(line, "the rights of two capabilities are wanted")
+    one, other = int(found[1]), int(found[2])
+    if not one & WRITE if flows else (one | other) & WRITE:
+        raise Fault(line, "this memory isn't of these rights")
+    return Common(tie, (one, other))
+
+
+def read_sharers(text: str) -> tuple[tuple[str, str], ...]:
+    """Who shares a semaphore, and what each may do there."""
+    names = (sharer.strip().partition(" ") for sharer in text.split(",") if sharer)
+    return tuple((name, may) for name, _, may in names)
 
 
 def read_line(told: Told, text: str, line: int) -> None:
@@ -131,9 +163,11 @@ def read_line(told: Told, text: str, line: int) -> None:
     elif word == "tie":
         told.ties.append(read_tie(rest, line))
     elif word == "flows":
-        told.flows.append(read_flow(rest, line))
+        told.flows.append(read_common(rest, line, flows=True))
+    elif word == "memory":
+        told.memory.append(read_common(rest, line, flows=False))
     elif (shared := SHARED.fullmatch(text)) is not None:
-        told.shared.append(int(shared[1]))
+        told.shared.append(Shared(int(shared[1]), read_sharers(shared[2])))
     elif FLOW.fullmatch(text) is not None:
         return  # not drawn
     elif (role := ROLE.fullmatch(text)) is not None and told.verdict == "served":

@@ -310,7 +310,8 @@ class Hints(unittest.TestCase):
             (["a", "--at", "x"], "--at: 'x' is no number"),
             (["a", "--until", "0x989681"], "--until: 10,000,001 is more than 10,000,000"),
             (["a", "--at", "4", "--until", "3"], "--until is before --at"),
-            (["a", "--flow", "4", "--until", "5"], "--flow stands in place of --at, and without --until"),
+            (["a", "--flow", "4", "--until", "3"], "--until is before --flow"),
+            (["a", "--flow", "4", "--at", "4"], "--flow stands in place of --at"),
         ):
             with self.subTest(words):
                 self.assertEqual(policy_hints(words), [f"these words are no request: {why}. ./nova-policy --help lists them"])
@@ -322,6 +323,7 @@ class Hints(unittest.TestCase):
             gone = f"{missing}: No such file or directory"
             for words, said in (
                 ([str(there), "--at=0x10", "--order", str(there)], []),
+                ([str(there), "--flow", "4", "--until", "4"], []),
                 ([str(missing)], [gone]),
                 ([f"--policy={missing}", "--", str(there)], [gone]),
                 ([str(there), "--order", folder, "--policy", str(missing)], [f"{folder} is a folder", gone]),

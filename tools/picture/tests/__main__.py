@@ -63,6 +63,7 @@ CASES = (
     Case("sides-breach", "sides {}/../../../examples/policy/tenants.sides"),
     Case("sides-stuck", "sides {}/stuck.sides --title named"),
     Case("sides-causes", "sides {}/causes.sides --policy {}/causes.policy"),
+    Case("sides-flows", "sides {}/flows.sides"),
     Case("nothing", "run {}/nothing.report"),
     Case("nothing-delegations", "delegations {}/nothing.report"),
 )
@@ -221,19 +222,41 @@ class Pictures(unittest.TestCase):
         self.assertIn('d5 -> d8 [label="serves ec 7 ec 9", color=red, fontcolor=red, penwidth=2]', graph)
         self.assertIn('subgraph cluster_0 { label="trusted"; style=filled; fillcolor=gray95; d0 [label="domain 0"] }', graph)
         self.assertEqual(graph.count(" -> "), 10)
+        graph = picture("sides", str(HERE / "flows.sides"), "--dot").stdout
+        for line in (
+            'd9 -> d14 [label="flows to side 14\ndomain 9 cap 24 to domain 14 cap 40, rights 2 and 5", ltail=cluster_2, lhead=cluster_3, penwidth=2]',
+            'd8 -> d5 [label="flows to side a\ndomain 8 cap 20 to domain 5 cap 15, frames 6 to 7\ndomain 8 cap 20 to domain 6 cap 16", '
+            "ltail=cluster_2, lhead=cluster_1, color=red, fontcolor=red, penwidth=2]",
+            'd6 -> d14 [label="reads with side 14\ndomain 6 cap 17 and domain 14 cap 41, rights 5 and 1", ltail=cluster_1, lhead=cluster_3, dir=none]',
+            's30 -> d8 [label="down waits", lhead=cluster_2, dir=none, style=dotted]',
+        ):
+            self.assertIn(f"  {line}\n", graph)
+        self.assertEqual(graph.count(" -> "), 9)
+
+    def test_a_breach_is_drawn_without_the_lines_of_ties(self) -> None:
+        text = (HERE / "flows.sides").read_text()
+        words = [sys.executable, str(TOP), "sides", "--dot"]
+        cut = subprocess.run(words, input=re.sub("(?m)^tie .*\n", "", text), capture_output=True, text=True, check=True).stdout
+        self.assertIn('d8 -> d5 [label="flows to side a\ndomain 8 cap 20 to domain 5 cap 15, frames 6 to 7", ', cut)
+        self.assertEqual(cut.count(" -> "), 7)
 
     def test_what_is_no_answer_is_refused(self) -> None:
         with tempfile.TemporaryDirectory() as folder:
             answer = Path(folder, "a.sides")
             for text, line in (
                 ("turn 3\napart\ntie a:5 b:6 portal\n", "line 3: this is no tie"),
+                ("turn 3\napart\nflows a:5 b:6 frames cap 3 cap 4 strict\n", "line 3: this is no memory of two sides"),
+                ("turn 3\napart\nflows a:5 a:6 frames cap 3 cap 4 rights 3 1\n", "line 3: this is no memory of two sides"),
+                ("turn 3\napart\nflows a:5 b:6 frames cap 3 cap 4 rights 3\n", "line 3: the rights of two capabilities are wanted"),
+                ("turn 3\napart\nmemory a:5 b:6 frames cap 3 cap 4 rights 3 1\n", "line 3: this memory isn't of these rights"),
+                ("turn 3\napart\nshared 3: a, b up\n", "line 3: no line of an answer is of this form"),
                 ("run quiet 3\n", "line 1: `turn N` is wanted; this is a report, which `tools/picture run` draws"),
             ):
                 answer.write_text(text)
                 done = picture("sides", str(answer))
                 self.assertEqual((done.returncode, done.stderr), (1, f"picture: {answer}: {line}\n"))
             answer.write_text("turn 3\napart\n" + "tie a:5 a:6 portal cap 3\n" * 2001)
-            self.assertIn("2001 ties: --dot writes a graph", picture("sides", str(answer)).stderr)
+            self.assertIn("2001 ties and flows: --dot writes a graph", picture("sides", str(answer)).stderr)
 
     def test_sources_of_another_scenario_are_refused(self) -> None:
         with tempfile.TemporaryDirectory() as folder:

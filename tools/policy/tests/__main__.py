@@ -152,10 +152,10 @@ class Read(unittest.TestCase):
     """What is no answer isn't read."""
 
     def test_an_answer_is_read_with_its_ties_or_refused(self) -> None:
-        told = read_sides("turn 3\nbreach a:5 trusted:0 domain cap 9 strict\nfrom 9 - 0 obj 0 0 1 0\ntrusted: 0\nside a: 5\nflows a:5 4:4 frames cap 9 cap 11\nprocessor 0: a 4\nprocessor 1:\ntie a:5 4:4 queue ec 1 ec 2\nflow a own 0 1 at work until turn 9: ec 2 gives\nflow 4 IsGuarded.memory cap 9 target 2\n")
+        told = read_sides("turn 3\nbreach a:5 trusted:0 domain cap 9 strict\nfrom 9 - 0 obj 0 0 1 0\ntrusted: 0\nside a: 5\nflows a:5 4:4 frames cap 9 cap 11 rights 3 1\nmemory a:5 4:4 frames cap 12 cap 13 rights 5 0\nprocessor 0: a 4\nprocessor 1:\ntie a:5 4:4 queue ec 1 ec 2\nflow a own 0 1 at work until turn 9: ec 2 gives\nflow 4 IsGuarded.memory cap 9 target 2\n")
         self.assertEqual((told.turn, told.breach.strict, told.links[0].parent, told.sides, told.ties[0].text), (3, True, None, {"a": (5,)}, "queue ec 1 ec 2"))
-        self.assertEqual((told.processors, [tie.text for tie in told.flows]), ([("a", "4"), ()], ["frames cap 9 cap 11"]))
-        for text in ("", "turn x\n", "turn 3\n", "turn 3\napart", "turn 3\napart\nhello\n", "turn 3\napart\nprocessor 1: a\n", "turn 3\nbreach a:5 b:6 portal ec 3\n", "turn 3\napart\ntie a:5 portal cap 3\n", "turn 3\napart\nflows a:5 b:6 portal cap 3\n", "turn 3\napart\nflows a:5 trusted:0 frames cap 3 cap 4\n", "turn 3\napart\nflow a\n", "turn 3\napart\nflow a own 0\n"):
+        self.assertEqual((told.processors, [(one.tie.text, one.rights) for one in (*told.flows, *told.memory)]), ([("a", "4"), ()], [("frames cap 9 cap 11", (3, 1)), ("frames cap 12 cap 13", (5, 0))]))
+        for text in ("", "turn x\n", "turn 3\n", "turn 3\napart", "turn 3\napart\nhello\n", "turn 3\napart\nprocessor 1: a\n", "turn 3\nbreach a:5 b:6 portal ec 3\n", "turn 3\napart\ntie a:5 portal cap 3\n", "turn 3\napart\nflows a:5 b:6 portal cap 3\n", "turn 3\napart\nflows a:5 trusted:0 frames cap 3 cap 4\n", "turn 3\napart\nflows a:5 b:6 frames cap 3 cap 4 rights 1 3\n", "turn 3\napart\nmemory a:5 b:6 frames cap 3 cap 4 rights 1 3\n", "turn 3\napart\nmemory a:5 a:6 frames cap 3 cap 4 rights 1 1\n", "turn 3\napart\nflow a\n", "turn 3\napart\nflow a own 0\n"):
             with self.subTest(text), self.assertRaises(Fault):
                 read_sides(text)
 

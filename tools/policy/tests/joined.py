@@ -62,10 +62,11 @@ def misnamed(place: Place, side: dict[int, str]) -> bool:
 def faults_of(told: Told, policy: Path | None) -> list[str]:
     """What is wrong with an answer by its own ties."""
     side = named(told, policy)
-    for place in (place for tie in (*told.ties, *told.flows) for place in (tie.source, tie.target)):
+    flows = [common.tie for common in told.flows]
+    for place in (place for tie in (*told.ties, *flows) for place in (tie.source, tie.target)):
         side.setdefault(place.domain, place.side)
-    faults = [f"{tie.text}: its sides are called otherwise" for tie in (*told.ties, *told.flows) if misnamed(tie.source, side) or misnamed(tie.target, side)]
-    faults += [f"{tie.text} flows" for tie in told.flows if (tie.source.side, tie.target.side) not in flows_in(policy)]
+    faults = [f"{tie.text}: its sides are called otherwise" for tie in (*told.ties, *flows) if misnamed(tie.source, side) or misnamed(tie.target, side)]
+    faults += [f"{tie.text} flows" for tie in flows if (tie.source.side, tie.target.side) not in flows_in(policy)]
     faults += [f"{tie.text} is a tie" for tie in told.ties if tie.cause == "frames" and (tie.source.side, tie.target.side) in flows_in(policy)]
     finest, stuck = joined(told.ties, side)
     if stuck != told.stuck:

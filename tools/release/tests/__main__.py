@@ -105,10 +105,12 @@ class Releases(unittest.TestCase):
             program = top / "bin" / "nova_policy"
             program.parent.mkdir()
             domains = "nova: no protection domain has such a number then. The same words with --policy /dev/null tell all there are\n"
+            semaphores = "nova: no semaphore has such a number then. Lines sm of the run's report tell all there are\n"
             odd = "there is no option --before (a file with such a name stands behind --)"
             request = f"nova: these words are no request: {odd}. ./nova-policy --help lists them\n"
             for line, status, words, before, behind in (
-                ("policy line 2: NoDomain", 7, ["a"], "", domains),
+                ("policy line 2: NoDomain 4", 7, ["a"], "", domains),
+                ("policy line 3: NoSemaphore 5", 7, ["a"], "", semaphores),
                 ("policy line 2: Number", 7, ["a"], "", ""),
                 ("read fault", 3, ["a"], "nova: a: No such file or directory\n", ""),
                 ("usage: ..", 2, ["--before"], request, ""),
