@@ -132,8 +132,6 @@ def read_common(text: str, line: int, flows: bool) -> Common:
     tie = read_tie(said, line)
     if tie.cause != "frames" or tie.strict or TRUSTED in (tie.source.side, tie.target.side) or tie.source.side == tie.target.side:
         raise Fault(line, "this is no memory of two sides")
-    if said == text:
-        return Common(tie, None)
     if (found := re.fullmatch(r"(\d+) (\d+)", rights)) is None:
         raise Fault(line, "the rights of two capabilities are wanted")
     one, other = int(found[1]), int(found[2])

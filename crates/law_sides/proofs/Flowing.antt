@@ -27,7 +27,7 @@ in_right : {T : Type 0} (xs ys : List T) (y : T) → IsIn ys y → IsIn (xs ++ y
 in_right [] ys y i = i
 in_right (x ∷ xs) ys y i = inr (in_right xs ys y i)
 
-in_flat : {X Y : Type 0} (f : X → List Y) (xs : List X) (x : X) (y : Y) → IsIn xs x → IsIn (f x) y → IsIn (flat_map f xs) y
+pub in_flat : {X Y : Type 0} (f : X → List Y) (xs : List X) (x : X) (y : Y) → IsIn xs x → IsIn (f x) y → IsIn (flat_map f xs) y
 in_flat f [] x y none i = absurd none
 in_flat {X} f (z ∷ xs) x y (inl same) i = in_left (f z) (flat_map f xs) y (subst (λ (w : X). IsIn (f w) y) (sym same) i)
 in_flat f (z ∷ xs) x y (inr later) i = in_right (f z) (flat_map f xs) y (in_flat f xs x y later i)

@@ -13,6 +13,7 @@ pub mod Muted
 pub mod Powers
 pub mod Respecting
 pub mod Parted
+pub mod Reading
 pub mod Rest
 pub mod Roles
 pub mod Shared

@@ -56,13 +56,9 @@ StayOwn shared k label =
     (d p : Derivation) → Contains k.delegations.list d → Contains k.delegations.list p → d.kind ≡ Obj → p.kind ≡ Obj → slice_get k.objects p.target ≡ Some Sm → d.target ≡ p.target →
     shared p.target ≡ true → is_child_of p.id d ≡ true → label p.pd ≢ 0 → label d.pd ≡ label p.pd
 
--- One-way flows: from a source, which may write memory, to a sink, which reaches it, each a side by its label. They are no order: what flows to a second side, and from that to a third, doesn't flow to the third
--- by that. Here nothing flows.
-abbrev pub nothing_flows : ℕ → ℕ → Bool
-nothing_flows source sink = false
-
 -- Labels are within the policy of sides, but for semaphores that are shared; what a side commands is its own; who waits for a side's handler by an exit is of that side; a frame that a side may write no other side
--- reaches, by whatever right, unless the first flows to it; and no side gave another a shared semaphore.
+-- reaches, by whatever right, unless the first flows to it; and no side gave another a shared semaphore. Flows are one-way: from a source, which may write memory, to a sink, which reaches it, each a side by its
+-- label. They are no order: what flows to a second side, and from that to a third, doesn't flow to the third by that.
 pub record AreIsolated (shared : ℕ → Bool) (flows : ℕ → ℕ → Bool) (k : KernelState) (label : ℕ → ℕ) : Type 0 where
   pub policy : IsWithinPolicy shared k label
   pub powers : CommandOwn k label

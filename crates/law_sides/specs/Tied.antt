@@ -6,7 +6,7 @@ use Rattle.nova_objects.specs.declared.object.Object.TheVariants.{Pd, Ec, Sc, Pt
 use Rattle.nova_range.specs.Rights.{allows, write_right}
 use Rattle.nova_range.specs.declared.range.Kind.{Kind}
 use Rattle.nova_range.specs.declared.range.Kind.TheVariants.{Mem, Obj}
-use Rattle.nova_model.specs.Delegations.{is_child_of}
+use Rattle.nova_model.specs.Delegations.{is_child_of, is_memory}
 use Rattle.nova_model.specs.Edges.{edge_of}
 use Rattle.nova_model.specs.State.{KernelState, context_at, is_local_thread, pd_of}
 use Rattle.nova_model.specs.declared.context.EcState.{EcState}
@@ -169,3 +169,22 @@ flowing_by flows list d = flowing_of_kind flows list d d.kind
 
 unfoldable pub flowing : (ℕ → ℕ → Bool) → KernelState → List Tie
 flowing flows k = flat_map (flowing_by flows k.delegations.list) k.delegations.list
+
+-- MEMORY THAT TWO SIDES READ
+
+-- a domain of a side has it, and may not write it
+abbrev pub is_read : (ℕ → ℕ) → Derivation → Bool
+is_read label d = not (label d.pd == 0) && (is_memory d.kind && not (allows d.rights write_right))
+
+-- and so does one of another side, with a frame in common: each pair once, by its numbers. These are no ties, either
+abbrev pub are_read : (ℕ → ℕ) → Derivation → Derivation → Bool
+are_read label d e = is_read label e && (not (label e.pd == label d.pd) && (nat_le d.id e.id && meets d e))
+
+abbrev pub both_read : (ℕ → ℕ) → Derivation → Derivation → Option Tie
+both_read label d e = if are_read label d e then Some (weak d.pd e.pd (cause.Frames d.id e.id)) else None
+
+abbrev pub reading_by : (ℕ → ℕ) → List Derivation → Derivation → List Tie
+reading_by label list d = if is_read label d then flat_map (λ (e : Derivation). option_to_list (both_read label d e)) list else []
+
+unfoldable pub reading : (ℕ → ℕ) → KernelState → List Tie
+reading label k = flat_map (reading_by label k.delegations.list) k.delegations.list

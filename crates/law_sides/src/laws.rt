@@ -19,7 +19,7 @@ ghost use Rattle.law_sides.specs.Isolated.{AreIsolated, CommandOwn, StayOwn};
 ghost use Rattle.law_sides.specs.Resting.{IsAtRest, StayIsolated};
 ghost use Rattle.law_sides.specs.Roles.{AreHarmless};
 ghost use Rattle.law_sides.specs.Shared.{StaysOrWakesAtShared};
-ghost use Rattle.law_sides.specs.Tied.{flowing, flows_by, ties, weak};
+ghost use Rattle.law_sides.specs.Tied.{flowing, flows_by, reading, ties, weak};
 
 /// Sides are isolated, but for semaphores that they share and memory that flows between them on purpose, exactly where their labels respect the ties
 /// of the state.
@@ -108,6 +108,23 @@ pub fn all_memory_that_flows_is_told()
         (weak writes.derivation.pd reaches.derivation.pd (Frames writes.derivation.id reaches.derivation.id)) }
     ensures only { (flows : ℕ → ℕ → Bool) (k : KernelState) (label : ℕ → ℕ) (t : Tie)
         → Contains (flowing (flows_by flows label) k) t → flows (label t.from) (label t.to) ≡ true }
+{}
+
+/// All memory that two sides reach and neither may write is told: any two capabilities of two sides that lead to one frame, without the right to write,
+/// are a pair that is told, in the order of their numbers; and each pair is of protection domains of two sides.
+pub fn all_memory_that_two_sides_read_is_told()
+    ensures all { (k : KernelState) (label : ℕ → ℕ) (side other frame : ℕ)
+        → side ≢ 0
+        → other ≢ 0
+        → other ≢ side
+        → (one : ReachAny k (Labelled label side) frame)
+        → (two : ReachAny k (Labelled label other) frame)
+        → allows one.derivation.rights write_right ≡ false
+        → allows two.derivation.rights write_right ≡ false
+        → Contains (reading label k) (weak one.derivation.pd two.derivation.pd (Frames one.derivation.id two.derivation.id))
+        ⊎ Contains (reading label k) (weak two.derivation.pd one.derivation.pd (Frames two.derivation.id one.derivation.id)) }
+    ensures only { (k : KernelState) (label : ℕ → ℕ) (t : Tie)
+        → Contains (reading label k) t → (label t.from ≢ 0) × (label t.to ≢ 0) × (label t.to ≢ label t.from) }
 {}
 
 /// Take semaphores that sides share on purpose, by a test, and sides within their policy but for these in such a state. A turn of one side changes no

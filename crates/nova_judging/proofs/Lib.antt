@@ -1,3 +1,4 @@
 pub mod Trailing
 pub mod Numbered
 pub mod Settled
+pub mod Sole

@@ -2,9 +2,9 @@
 use Rattle.std.specs.Prelude.{◌≡◌, ℕ, ◌==◌, ◌≤◌, ◌^◌, ◌⊎◌, Bool, if◌then◌else◌, List, [], length, ◌++◌, codes, decimal, Option, Some, None}
 use Rattle.nova_model.specs.State.{KernelState}
 use Rattle.nova_report.specs.Words.{line_feed}
-use Rattle.nova_ties.specs.Ties.{AreRespected, IsCoarser, IsStuck, label_in}
+use Rattle.nova_ties.specs.Ties.{AreLeast, AreRespected, IsCoarser, IsStuck, label_in}
 use Rattle.nova_ties.specs.declared.tie.Tie.{Tie}
-use Rattle.law_sides.specs.Tied.{flowing, ties}
+use Rattle.law_sides.specs.Tied.{flowing, reading, ties}
 use Rattle.nova_naming.specs.Labels.{flows_of, semaphores_of}
 use Rattle.nova_naming.specs.Statements.{Stated}
 use Rattle.nova_sides.specs.Among.{flows_in, is_flow}
@@ -12,7 +12,8 @@ use Rattle.nova_sides.specs.Verdicts.{IsJudged}
 use Rattle.nova_sides.specs.declared.judging.Verdict.{Verdict}
 use Rattle.nova_sides.specs.declared.judging.Verdict.TheVariants as verdict
 use Rattle.nova_judging.specs.Labelled.{are_two, flows_between, labels_of, shared_by}
-use Rattle.nova_judging.specs.Lines.{flowing_lines, judged_lines, stuck_lines, tie_lines}
+use Rattle.nova_judging.specs.Lines.{judged_lines, stuck_lines, tie_lines}
+use Rattle.nova_judging.specs.Memory.{flowing_lines, reading_lines}
 use Rattle.nova_judging.specs.Processors.{processor_lines}
 use Rattle.nova_judging.specs.Sharing.{shared_lines}
 use Rattle.nova_judging.specs.Sides.{side_lines}
@@ -35,12 +36,13 @@ answer_of two (verdict.Served why) = answer_if two Served
 abbrev pub ties_beside : List (ℕ × ℕ) → List Stated → KernelState → List Tie
 ties_beside flows policy k = ties (shared_by policy) (flows_in flows (labels_of policy k)) k
 
--- labels were joined to the finest that respect these ties, and trust no more
+-- labels were joined to the finest that respect these ties, and trust no more; each side has the least of its own
 pub record AreFinest (tied : List Tie) (old new : List ℕ) : Type 0 where
   pub respected : AreRespected (label_in new) tied
   pub trusted : (n : ℕ) → (label_in new n == 0) ≡ (label_in old n == 0)
   pub joined : IsCoarser (label_in new) (label_in old)
   pub finest : (label : ℕ → ℕ) → AreRespected label tied → IsCoarser label (label_in old) → IsCoarser label (label_in new)
+  pub least : AreLeast (label_in new) (label_in old)
 
 -- or no labels can be, for a tie that leads to what is trusted
 abbrev pub AreSettled : List Tie → List ℕ → List ℕ → Option Tie → Type 0
@@ -57,11 +59,16 @@ abbrev pub finest_lines : List Stated → KernelState → List ℕ → List ℕ 
 finest_lines policy k old new None = side_lines policy new k.objects
 finest_lines policy k old new (Some t) = stuck_lines policy old k.delegations.list t
 
--- what sides share and what flows between them
-abbrev pub between_lines : List Stated → KernelState → List ℕ → List ℕ
-between_lines policy k labels = shared_lines policy k labels ++ flowing_lines policy labels (flowing (flows_in (flows_of policy) labels) k)
+-- the memory that two sides reach and neither may write
+abbrev pub read_lines : List Stated → KernelState → List ℕ → List ℕ
+read_lines policy k labels = reading_lines policy labels k.delegations.list (reading (label_in labels) k)
 
--- what is told of the sides as a policy names them: the verdict, the finest sides to which they can be joined, what they share and what flows between them, processors, and the ties
+-- what sides share, what flows between them and what they read
+abbrev pub between_lines : List Stated → KernelState → List ℕ → List ℕ
+between_lines policy k labels = shared_lines policy k labels ++ (flowing_lines policy labels k.delegations.list (flowing (flows_in (flows_of policy) labels) k)
+    ++ read_lines policy k labels)
+
+-- what is told of the sides as a policy names them: the verdict, the finest sides to which they can be joined, what they share, what flows between them and what they read, processors, and the ties
 abbrev pub named_text : List Stated → KernelState → List ℕ → List ℕ → Option Tie → Verdict → List ℕ
 named_text policy k labels new stuck v = turn_line k ++ (judged_lines policy labels k k.delegations.list v
     ++ (finest_lines policy k labels new stuck ++ (between_lines policy k labels
@@ -70,7 +77,7 @@ named_text policy k labels new stuck v = turn_line k ++ (judged_lines policy lab
 -- what is told of the finest sides: between these nothing flows
 abbrev pub finest_text : List Stated → KernelState → List ℕ → List ℕ → Verdict → List ℕ
 finest_text policy k labels new v = turn_line k ++ (judged_lines policy new k k.delegations.list v
-    ++ (side_lines policy new k.objects ++ (processor_lines policy k new ++ tie_lines policy labels (ties_beside [] policy k))))
+    ++ (side_lines policy new k.objects ++ (read_lines policy k new ++ (processor_lines policy k new ++ tie_lines policy labels (ties_beside [] policy k)))))
 
 abbrev pub stuck_text : List Stated → KernelState → List ℕ → Tie → List ℕ
 stuck_text policy k labels t = turn_line k ++ (stuck_lines policy labels k.delegations.list t ++ tie_lines policy labels (ties_beside [] policy k))

@@ -5,6 +5,7 @@ pub mod Trails
 pub mod Roles
 pub mod Sharing
 pub mod Lines
+pub mod Memory
 pub mod Sides
 pub mod Processors
 pub mod Answers

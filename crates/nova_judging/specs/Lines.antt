@@ -54,13 +54,6 @@ tie_line policy labels t = if is_untold labels t then [] else codes "tie " ++ ti
 abbrev pub tie_lines : List Stated → List ℕ → List Tie → List ℕ
 tie_lines policy labels ts = flat_map (tie_line policy labels) ts
 
--- memory that flows from a side to another, in place of a tie
-abbrev pub flowing_line : List Stated → List ℕ → Tie → List ℕ
-flowing_line policy labels t = codes "flows " ++ tie_text policy labels t
-
-abbrev pub flowing_lines : List Stated → List ℕ → List Tie → List ℕ
-flowing_lines policy labels ts = flat_map (flowing_line policy labels) ts
-
 -- what is at work of what is trusted, or leads there
 abbrev pub restless_lines : List Stated → List ℕ → KernelState → List Derivation → Restless → List ℕ
 restless_lines policy labels k list (Astray n) = codes "served astray " ++ (decimal n ++ line_feed)

@@ -5,13 +5,14 @@ ghost use Rattle.nova_judging.specs.Answers.{AreFinest, AreSettled, IsFinestAnsw
 ghost use Rattle.nova_judging.specs.Labelled.{labels_of};
 
 use crate::labels::{are_two, labels_of};
-use crate::lines::{write_flowing, write_judged, write_stuck, write_ties};
+use crate::lines::{write_judged, write_stuck, write_ties};
+use crate::memory::{write_flowing, write_reading};
 use crate::processors::write_processors;
 use crate::sharing::write_shared;
 use crate::sides::write_sides;
 use nova_kernel::{Derivation, Kernel};
 use nova_naming::Policy;
-use nova_sides::{Verdict, derivations_of, flowing, judge, ties};
+use nova_sides::{Verdict, derivations_of, judge, ties};
 use nova_ties::{Tie, settle};
 use std::alloc::{AllocError, Global};
 
@@ -126,7 +127,7 @@ fn write_finest(
     }
 }
 
-/// What is told of what sides share and of what flows between them.
+/// What is told of what sides share, of what flows between them and of what they read.
 fn write_between(
     out: &mut String,
     alloc: Global,
@@ -147,8 +148,16 @@ fn write_between(
         &facts.list,
         &facts.shared,
     )?;
-    let flowing = flowing(alloc, kernel, &facts.labels, &facts.flows)?;
-    write_flowing(out, policy, &facts.labels, &flowing)
+    write_flowing(
+        out,
+        alloc,
+        policy,
+        kernel,
+        &facts.labels,
+        &facts.list,
+        &facts.flows,
+    )?;
+    write_reading(out, alloc, policy, kernel, &facts.labels, &facts.list)
 }
 
 /// What is told of the sides as a policy names them.
@@ -178,6 +187,7 @@ fn write_named(
 /// What is told of the finest sides.
 fn write_found(
     out: &mut String,
+    alloc: Global,
     policy: &Policy,
     kernel: &Kernel,
     facts: &Facts,
@@ -192,6 +202,7 @@ fn write_found(
     write_turn(out, kernel)?;
     write_judged(out, policy, new, kernel, &facts.list, verdict)?;
     write_sides(out, policy, new, kernel.objects())?;
+    write_reading(out, alloc, policy, kernel, new, &facts.list)?;
     write_processors(out, policy, kernel, new, &facts.list)?;
     write_ties(out, policy, &facts.labels, &facts.ties)
 }
@@ -280,7 +291,7 @@ fn tell_found(
 {
     let verdict = judge(alloc, kernel, new, &facts.shared, &facts.flows)?;
     let mut text = String::new(alloc);
-    write_found(&mut text, policy, kernel, facts, verdict, new)?;
+    write_found(&mut text, alloc, policy, kernel, facts, verdict, new)?;
     Ok(Told {
         answer: answer_of(are_two(new), verdict),
         text,
@@ -344,8 +355,8 @@ fn tell_finest(
 
 /// What the sides of `policy` are in the present state of `kernel`, as it names them: whether they are isolated, but for semaphores that they share and
 /// memory that flows between them by the policy, exactly, and whether what is trusted is at rest, exactly; with the finest sides to which they can be
-/// joined, these semaphores, this memory, which sides may take turns of which processor, and the ties of sides to other domains. A number that the
-/// policy names, and that is no domain, counts for nothing. The only refusal is of memory.
+/// joined, these semaphores, this memory and what two sides may read alone, with rights, which sides may take turns of which processor, and the ties of
+/// sides to other domains. A number that the policy names, and that is no domain, counts for nothing. The only refusal is of memory.
 pub fn answer_named(alloc: Global, policy: &Policy, kernel: &Kernel) -> Result<Told, AllocError>
     ensures { IfOk result (λ t. IsNamedAnswer policy.now kernel.now.state t.answer (string_bytes t.text)) }
 {

@@ -4,7 +4,16 @@ ghost use Rattle.nova_model.specs.Boot.{Scenario, boot};
 ghost use Rattle.nova_model.specs.Runs.{run};
 ghost use Rattle.nova_model.specs.declared.delegation.Derivation.{Derivation};
 ghost use Rattle.nova_range.specs.declared.range.Kind.TheVariants.{Mem, Obj};
+ghost use Rattle.nova_ties.specs.Ties.{label_in};
+ghost use Rattle.nova_ties.specs.declared.tie.Tie.{Tie};
+ghost use Rattle.nova_judging.specs.Answers.{AreFinest};
 ghost use Rattle.nova_judging.specs.Trails.{IsChain, trail, trail_lines};
+
+/// The finest sides are sole, and so is what they are called: of two tables of labels to which the same labels were joined as the finest that respect
+/// some ties, each domain has the same label in both.
+pub fn the_finest_sides_are_sole()
+    ensures { (tied : List Tie) (old one other : List ℕ) (n : ℕ) → AreFinest tied old one → AreFinest tied old other → label_in one n ≡ label_in other n }
+{}
 
 /// Where a capability came from is told as the chain of its parents. In each state that turns reach from a boot state, the trail of a derivation
 /// begins with itself, each is the parent of the one before it, and the last has no parent; and no other list is such a chain.

@@ -5,6 +5,7 @@ mod answer;
 mod labels;
 pub mod laws;
 mod lines;
+mod memory;
 mod processors;
 mod roles;
 mod sharing;

@@ -1,7 +1,7 @@
 ghost use Rattle.std.specs.Prelude.{◌≡◌, ◌++◌, OnOk, codes, decimal, false, string_bytes, true};
 ghost use Rattle.nova_model.specs.State.{pd_of};
 ghost use Rattle.nova_report.specs.Words.{line_feed};
-ghost use Rattle.nova_judging.specs.Lines.{breach_lines, cause_text, domain_text, flowing_line, flowing_lines, is_untold, judged_lines, restless_lines, strict_text, stuck_lines, tie_line, tie_lines, tie_text, verdict_lines};
+ghost use Rattle.nova_judging.specs.Lines.{breach_lines, cause_text, domain_text, is_untold, judged_lines, restless_lines, strict_text, stuck_lines, tie_line, tie_lines, tie_text, verdict_lines};
 ghost use Rattle.nova_judging.specs.Roles.{role_lines};
 ghost use Rattle.nova_judging.specs.Trails.{trail_lines};
 
@@ -25,7 +25,7 @@ pub(crate) fn domain_of(kernel: &Kernel, ec: u32) -> u32
 }
 
 /// Writes `domain`, behind what its side is called.
-fn write_domain(
+pub(crate) fn write_domain(
     out: &mut String,
     policy: &Policy,
     labels: &[u32],
@@ -37,7 +37,7 @@ fn write_domain(
     write!(out, ":{domain}")
 }
 
-fn write_cause(out: &mut String, cause: Cause) -> Result<(), AllocError>
+pub(crate) fn write_cause(out: &mut String, cause: Cause) -> Result<(), AllocError>
     ensures { OnOk result (string_bytes out.new ≡ string_bytes out.old ++ cause_text cause) }
 {
     match cause {
@@ -106,33 +106,6 @@ pub(crate) fn write_ties(
 {
     for tie in ties {
         write_tie_line(out, policy, labels, *tie)?;
-    }
-    Ok(())
-}
-
-fn write_flowing_line(
-    out: &mut String,
-    policy: &Policy,
-    labels: &[u32],
-    tie: Tie,
-) -> Result<(), AllocError>
-    ensures { OnOk result (string_bytes out.new ≡ string_bytes out.old ++ flowing_line policy.now labels.now tie) }
-{
-    out.push_str("flows ")?;
-    write_tie(out, policy, labels, tie)
-}
-
-/// Writes the memory that flows from sides to others.
-pub(crate) fn write_flowing(
-    out: &mut String,
-    policy: &Policy,
-    labels: &[u32],
-    flowing: &[Tie],
-) -> Result<(), AllocError>
-    ensures { OnOk result (string_bytes out.new ≡ string_bytes out.old ++ flowing_lines policy.now labels.now flowing.now) }
-{
-    for tie in flowing {
-        write_flowing_line(out, policy, labels, *tie)?;
     }
     Ok(())
 }

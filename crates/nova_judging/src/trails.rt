@@ -54,7 +54,7 @@ fn of_id(list: &[Derivation], id: u32) -> Option<&Derivation>
 }
 
 /// The derivation `id` of `list`, where there is one.
-fn with_id(list: &[Derivation], id: u32) -> Option<Derivation>
+pub(crate) fn with_id(list: &[Derivation], id: u32) -> Option<Derivation>
     ensures { result ≡ with_id list.now id }
 {
     Some(*of_id(list, id)?)

@@ -56,6 +56,12 @@ pub(crate) fn is_among(list: &[u32], n: u32) -> bool
     list.iter().any(|&other| other == n)
 }
 
+pub(crate) fn is_memory(kind: Kind) -> bool
+    ensures { result ≡ is_memory kind }
+{
+    matches!(kind, Kind::Mem)
+}
+
 pub(crate) fn is_object(kind: Kind) -> bool
     ensures { result ≡ not (is_memory kind) }
 {

@@ -34,7 +34,7 @@ fn leads_to(d: Derivation, frame: u32) -> bool
 }
 
 /// Whether two ranges of memory have a frame in common.
-fn meets(d: Derivation, e: Derivation) -> bool
+pub(crate) fn meets(d: Derivation, e: Derivation) -> bool
     ensures { result ≡ meets d e }
 {
     leads_to(d, e.target) || leads_to(e, d.target)

@@ -1,11 +1,11 @@
 -- What comes of joining sides: the ties are respected, and no sides are joined that needn't be.
-use Rattle.std.proofs.Common.{◌≡◌, ◌≢◌, ◌⊎◌, ◌<◌, ◌≤◌, ◌+◌, ◌++◌, ℕ, zero, suc, List, [], ◌∷◌, length, take, drop, set, get_or, refl, sym, ap, ◌∙◌, subst, inl, inr, arith}
-use Rattle.std.specs.Prelude.{◌==◌, ◌||◌, ◌&&◌, Bool, true, false, not, if◌then◌else◌, Option, Some, None, map, IfNone, IfSome}
-use Rattle.std.proofs.lemmas.Bool.{and_parts, cases_eq, eq-eqb, eqb-false, eqb-true, ne_eqb, not-false, not-true, or_cases, or_parts}
+use Rattle.std.proofs.Common.{◌≡◌, ◌≢◌, ◌⊎◌, ◌<◌, ◌≤◌, ◌+◌, ◌++◌, ℕ, zero, suc, List, [], ◌∷◌, length, take, drop, set, get_or, refl, sym, ap, ap₂, ◌∙◌, subst, inl, inr, arith}
+use Rattle.std.specs.Prelude.{◌==◌, ◌||◌, ◌&&◌, Bool, true, false, not, if◌then◌else◌, max, min, Option, Some, None, map, IfNone, IfSome}
+use Rattle.std.proofs.lemmas.Bool.{and_parts, cases_eq, cases_lt, eq-eqb, eqb-false, eqb-true, ne_eqb, not-false, not-true, or_cases, or_parts}
 use Rattle.std.proofs.lemmas.List.{append_assoc, at_drop_all, at_drop_more, drop-set-lt, drop_more, take_more_set}
 use Rattle.std.proofs.lemmas.List.Elements.{Contains-append_right, Contains-get_or}
 use Rattle.std.proofs.lemmas.Option.{same_Some}
-use Rattle.nova_ties.specs.Ties.{AreRespected, IsCoarser, IsStuck, Respects, is_met, is_respected, label_in, met, renamed, settled}
+use Rattle.nova_ties.specs.Ties.{AreLeast, AreRespected, IsCoarser, IsStuck, Respects, is_met, is_respected, label_in, met, renamed, settled}
 use Rattle.nova_ties.specs.declared.tie.Tie.{Tie}
 
 -- THE TEST OF A TIE
@@ -64,6 +64,12 @@ renamed_it old new = ap (λ (b : Bool). if b then new else old) (eq-eqb old old 
 renamed_other : (old new label : ℕ) → label ≢ old → renamed old new label ≡ label
 renamed_other old new label other = ap (λ (b : Bool). if b then new else label) (ne_eqb label old other)
 
+renamed_own : (a b : ℕ) → renamed b a a ≡ a
+renamed_own a b = elim (cases_eq a b) [
+  | inl same ↦ ap (renamed b a) same ∙ renamed_it b a
+  | inr other ↦ renamed_other b a a other
+]
+
 renamed_some : (old new label : ℕ) → new ≢ 0 → label ≢ 0 → renamed old new label ≢ 0
 renamed_some old new label some its = elim (cases_eq label old) [
   | inl same ↦ λ none. some (sym (ap (renamed old new) same ∙ renamed_it old new) ∙ none)
@@ -76,43 +82,59 @@ renamed_in old new some [] n = sym (renamed_none old new some)
 renamed_in old new some (l ∷ labels) zero = refl
 renamed_in old new some (l ∷ labels) (suc n) = renamed_in old new some labels n
 
--- the labels respected the tie, and stay; or its second side takes the label of its first
+-- the two domains of a tie, in either order
+abbrev AreOf : Tie → ℕ → ℕ → Type 0
+AreOf t stay go = ((stay ≡ t.from) × (go ≡ t.to)) ⊎ ((stay ≡ t.to) × (go ≡ t.from))
+
+-- the labels respected the tie, and stay; or the side of one of its domains takes the lesser label, that of the other
 data IsMet (old : List ℕ) (t : Tie) (new : List ℕ) : Type 0 where
   Stays : is_respected (label_in old) t ≡ true → new ≡ old → IsMet old t new
-  Joins : label_in old t.from ≢ 0 → label_in old t.to ≢ 0 → ((n : ℕ) → label_in new n ≡ renamed (label_in old t.to) (label_in old t.from) (label_in old n)) → IsMet old t new
+  Joins : (stay go : ℕ) → AreOf t stay go → label_in old stay ≢ 0 → label_in old go ≢ 0 → label_in old stay ≤ label_in old go →
+      ((n : ℕ) → label_in new n ≡ renamed (label_in old go) (label_in old stay) (label_in old n)) → IsMet old t new
+
+-- the labels of which the lesser of two stays
+abbrev joined_labels : List ℕ → Tie → List ℕ
+joined_labels labels t = map (renamed (max (label_in labels t.from) (label_in labels t.to)) (min (label_in labels t.from) (label_in labels t.to))) labels
 
 met_is : (old : List ℕ) (t : Tie) → is_met old t ≡ true → IsMet old t (met old t)
 met_is old t is = by_tests (is_respected (label_in old) t) refl (label_in old t.to == 0) refl is
   where
-    by_tests : (r : Bool) → is_respected (label_in old) t ≡ r → (z : Bool) → (label_in old t.to == 0) ≡ z → (r || not z) ≡ true →
-        IsMet old t (if r || z then old else map (renamed (label_in old t.to) (label_in old t.from)) old)
+    by_order : label_in old t.from ≢ 0 → label_in old t.to ≢ 0 → (label_in old t.from < label_in old t.to) ⊎ (label_in old t.to ≤ label_in old t.from) → IsMet old t (joined_labels old t)
+    by_order from to (inl before) =
+        let most : max (label_in old t.from) (label_in old t.to) ≡ label_in old t.to = omega (arith, before) in
+        let least : min (label_in old t.from) (label_in old t.to) ≡ label_in old t.from = omega (arith, before) in
+        subst (IsMet old t) (sym (ap₂ (λ (x y : ℕ). map (renamed x y) old) most least))
+        (Joins t.from t.to (inl (refl, refl)) from to (omega (arith, before)) (renamed_in (label_in old t.to) (label_in old t.from) to old))
+    by_order from to (inr after) =
+        let most : max (label_in old t.from) (label_in old t.to) ≡ label_in old t.from = omega (arith, after) in
+        let least : min (label_in old t.from) (label_in old t.to) ≡ label_in old t.to = omega (arith, after) in
+        subst (IsMet old t) (sym (ap₂ (λ (x y : ℕ). map (renamed x y) old) most least))
+        (Joins t.to t.from (inr (refl, refl)) to from after (renamed_in (label_in old t.from) (label_in old t.to) from old))
+
+    by_tests : (r : Bool) → is_respected (label_in old) t ≡ r → (z : Bool) → (label_in old t.to == 0) ≡ z → (r || not z) ≡ true → IsMet old t (if r || z then old else joined_labels old t)
     by_tests true r z n is = Stays r refl
     by_tests false r true n is = absurd (cc)
-    by_tests false r false n is =
-        let some = eqb-false (label_in old t.to) 0 n in
-        Joins (broken_from (label_in old) t r).from some (renamed_in (label_in old t.to) (label_in old t.from) some old)
+    by_tests false r false n is = by_order (broken_from (label_in old) t r).from (eqb-false (label_in old t.to) 0 n) (cases_lt (label_in old t.from) (label_in old t.to))
 
 met_respects : (old new : List ℕ) (t : Tie) → IsMet old t new → Respects (label_in new) t
 met_respects old new t (Stays is same) = subst (λ (l : List ℕ). Respects (label_in l) t) (sym same) (respects_from (label_in old) t is)
-met_respects old new t (Joins from to all) = λ some.
-    let a = label_in old t.from in
-    let b = label_in old t.to in
-    inl (all t.to ∙ renamed_it b a ∙ sym (all t.from ∙ own a b))
+met_respects old new t (Joins stay go of first second lesser all) = λ some. inl (by_order of)
   where
-    own : (a b : ℕ) → renamed b a a ≡ a
-    own a b = elim (cases_eq a b) [
-      | inl same ↦ ap (renamed b a) same ∙ renamed_it b a
-      | inr other ↦ renamed_other b a a other
-    ]
+    one : label_in new go ≡ label_in new stay
+    one = all go ∙ renamed_it (label_in old go) (label_in old stay) ∙ sym (all stay ∙ renamed_own (label_in old stay) (label_in old go))
+
+    by_order : AreOf t stay go → label_in new t.to ≡ label_in new t.from
+    by_order (inl both) = sym (ap (label_in new) both.1) ∙ one ∙ ap (label_in new) both.0
+    by_order (inr both) = sym (ap (label_in new) both.0) ∙ sym one ∙ ap (label_in new) both.1
 
 -- a domain that had no label has none, and a domain that had one has one
 met_none : (old new : List ℕ) (t : Tie) → IsMet old t new → (n : ℕ) → label_in old n ≡ 0 → label_in new n ≡ 0
 met_none old new t (Stays is same) n none = ap (λ (l : List ℕ). label_in l n) same ∙ none
-met_none old new t (Joins from to all) n none = all n ∙ ap (renamed (label_in old t.to) (label_in old t.from)) none ∙ renamed_none (label_in old t.to) (label_in old t.from) to
+met_none old new t (Joins stay go of first second lesser all) n none = all n ∙ ap (renamed (label_in old go) (label_in old stay)) none ∙ renamed_none (label_in old go) (label_in old stay) second
 
 met_some : (old new : List ℕ) (t : Tie) → IsMet old t new → (n : ℕ) → label_in old n ≢ 0 → label_in new n ≢ 0
 met_some old new t (Stays is same) n some = λ none. some (sym (ap (λ (l : List ℕ). label_in l n) same) ∙ none)
-met_some old new t (Joins from to all) n some = λ none. renamed_some (label_in old t.to) (label_in old t.from) (label_in old n) from some (sym (all n) ∙ none)
+met_some old new t (Joins stay go of first second lesser all) n some = λ none. renamed_some (label_in old go) (label_in old stay) (label_in old n) first some (sym (all n) ∙ none)
 
 met_zero : (old new : List ℕ) (t : Tie) → IsMet old t new → (n : ℕ) → (label_in new n == 0) ≡ (label_in old n == 0)
 met_zero old new t m n = elim (cases_eq (label_in old n) 0) [
@@ -122,7 +144,7 @@ met_zero old new t m n = elim (cases_eq (label_in old n) 0) [
 
 met_joined : (old new : List ℕ) (t : Tie) → IsMet old t new → (m n : ℕ) → label_in old m ≡ label_in old n → label_in new m ≡ label_in new n
 met_joined old new t (Stays is same) m n h = ap (λ (l : List ℕ). label_in l m) same ∙ h ∙ sym (ap (λ (l : List ℕ). label_in l n) same)
-met_joined old new t (Joins from to all) m n h = all m ∙ ap (renamed (label_in old t.to) (label_in old t.from)) h ∙ sym (all n)
+met_joined old new t (Joins stay go of first second lesser all) m n h = all m ∙ ap (renamed (label_in old go) (label_in old stay)) h ∙ sym (all n)
 
 met_coarser : (old new : List ℕ) (t : Tie) → IsMet old t new → IsCoarser (label_in new) (label_in old)
 met_coarser old new t m = record { sides = met_some old new t m; joined = λ p n some h. met_joined old new t m p n h }
@@ -137,34 +159,69 @@ met_keeps old new t u m holds some = elim (holds (λ none. some (met_none old ne
 -- labels that respect the tie, and join what was joined, join what is joined now
 met_finest : (old new : List ℕ) (t : Tie) (label : ℕ → ℕ) → IsMet old t new → Respects label t → IsCoarser label (label_in old) → IsCoarser label (label_in new)
 met_finest old new t label (Stays is same) holds c = subst (λ (l : List ℕ). IsCoarser label (label_in l)) (sym same) c
-met_finest old new t label (Joins from to all) holds c = record {
-  sides = λ n some. c.sides n (λ none. some (all n ∙ ap (renamed b a) none ∙ renamed_none b a to));
-  joined = λ m n some h. by_places m n (λ none. some (all m ∙ ap (renamed b a) none ∙ renamed_none b a to)) (sym (all m) ∙ h ∙ all n) (cases_eq (label_in old m) b) (cases_eq (label_in old n) b);
+met_finest old new t label (Joins stay go of first second lesser all) holds c = record {
+  sides = λ n some. c.sides n (λ none. some (all n ∙ ap (renamed b a) none ∙ renamed_none b a second));
+  joined = λ m n some h. by_places m n (λ none. some (all m ∙ ap (renamed b a) none ∙ renamed_none b a second)) (sym (all m) ∙ h ∙ all n) (cases_eq (label_in old m) b) (cases_eq (label_in old n) b);
 }
   where
     a : ℕ
-    a = label_in old t.from
+    a = label_in old stay
 
     b : ℕ
-    b = label_in old t.to
+    b = label_in old go
 
-    one : label t.to ≡ label t.from
-    one = elim (holds (c.sides t.from from)) [
+    tied : label_in old t.from ≢ 0 → label_in old t.to ≢ 0 → label t.to ≡ label t.from
+    tied from to = elim (holds (c.sides t.from from)) [
       | inl same ↦ same
       | inr weak ↦ absurd (c.sides t.to to weak.1)
     ]
+
+    by_order : AreOf t stay go → label go ≡ label stay
+    by_order (inl both) =
+        ap label both.1 ∙ tied (subst (λ (n : ℕ). label_in old n ≢ 0) both.0 first) (subst (λ (n : ℕ). label_in old n ≢ 0) both.1 second) ∙ sym (ap label both.0)
+    by_order (inr both) =
+        ap label both.1 ∙ sym (tied (subst (λ (n : ℕ). label_in old n ≢ 0) both.1 second) (subst (λ (n : ℕ). label_in old n ≢ 0) both.0 first)) ∙ sym (ap label both.0)
+
+    one : label go ≡ label stay
+    one = by_order of
 
     by_places : (m n : ℕ) → label_in old m ≢ 0 → renamed b a (label_in old m) ≡ renamed b a (label_in old n) → (label_in old m ≡ b) ⊎ (label_in old m ≢ b) → (label_in old n ≡ b) ⊎ (label_in old n ≢ b) →
         label m ≡ label n
     by_places m n some h (inl p) (inl q) = c.joined m n some (p ∙ sym q)
     by_places m n some h (inl p) (inr q) =
         let its : a ≡ label_in old n = sym (ap (renamed b a) p ∙ renamed_it b a) ∙ h ∙ renamed_other b a (label_in old n) q in
-        c.joined m t.to some p ∙ one ∙ c.joined t.from n from its
+        c.joined m go some p ∙ one ∙ c.joined stay n first its
     by_places m n some h (inr p) (inl q) =
         let its : label_in old m ≡ a = sym (renamed_other b a (label_in old m) p) ∙ h ∙ ap (renamed b a) q ∙ renamed_it b a in
-        c.joined m t.from some its ∙ sym one ∙ c.joined t.to n to (sym q)
+        c.joined m stay some its ∙ sym one ∙ c.joined go n second (sym q)
     by_places m n some h (inr p) (inr q) =
         c.joined m n some (sym (renamed_other b a (label_in old m) p) ∙ h ∙ renamed_other b a (label_in old n) q)
+
+-- a side has the least label of its own before
+least_itself : (label : ℕ → ℕ) → AreLeast label label
+least_itself label = record { had = λ n some. (n, refl, refl); least = λ m n same. omega (arith, same) }
+
+met_least : (old new : List ℕ) (t : Tie) → IsMet old t new → AreLeast (label_in new) (label_in old)
+met_least old new t (Stays is same) = subst (λ (l : List ℕ). AreLeast (label_in l) (label_in old)) (sym same) (least_itself (label_in old))
+met_least old new t (Joins stay go of first second lesser all) = record {
+  had = λ n some. by_place n (cases_eq (label_in old n) (label_in old go));
+  least = λ m n same. by_label m n same (cases_eq (label_in old m) (label_in old go));
+}
+  where
+    goes : (n : ℕ) → label_in old n ≡ label_in old go → label_in new n ≡ label_in old stay
+    goes n is = all n ∙ ap (renamed (label_in old go) (label_in old stay)) is ∙ renamed_it (label_in old go) (label_in old stay)
+
+    by_place : (n : ℕ) → (label_in old n ≡ label_in old go) ⊎ (label_in old n ≢ label_in old go) → (m : ℕ) × (label_in new m ≡ label_in new n) × (label_in old m ≡ label_in new n)
+    by_place n (inl is) = (stay, all stay ∙ renamed_own (label_in old stay) (label_in old go) ∙ sym (goes n is), sym (goes n is))
+    by_place n (inr other) = (n, refl, sym (all n ∙ renamed_other (label_in old go) (label_in old stay) (label_in old n) other))
+
+    by_label : (m n : ℕ) → label_in new m ≡ label_in new n → (label_in old m ≡ label_in old go) ⊎ (label_in old m ≢ label_in old go) → label_in new n ≤ label_in old m
+    by_label m n same (inl is) =
+        let its : label_in new n ≡ label_in old stay = sym same ∙ goes m is in
+        omega (arith, its, is, lesser)
+    by_label m n same (inr other) =
+        let its : label_in new n ≡ label_in old m = sym same ∙ all m ∙ renamed_other (label_in old go) (label_in old stay) (label_in old m) other in
+        omega (arith, its)
 
 -- ALL TIES
 
@@ -184,10 +241,10 @@ settled_end labels = refl
 pub unmet_stays : (t : Tie) (labels : List ℕ) → is_met labels t ≡ false → met labels t ≡ labels
 unmet_stays t labels is =
     let parts = or_parts (is_respected (label_in labels) t) (not (label_in labels t.to == 0)) is in
-    ap (λ (b : Bool). if is_respected (label_in labels) t || b then labels else map (renamed (label_in labels t.to) (label_in labels t.from)) labels) (not-false (label_in labels t.to == 0) parts.1)
+    ap (λ (b : Bool). if is_respected (label_in labels) t || b then labels else joined_labels labels t) (not-false (label_in labels t.to == 0) parts.1)
     ∙ by_test (is_respected (label_in labels) t)
   where
-    by_test : (b : Bool) → (if b || true then labels else map (renamed (label_in labels t.to) (label_in labels t.from)) labels) ≡ labels
+    by_test : (b : Bool) → (if b || true then labels else joined_labels labels t) ≡ labels
     by_test true = refl
     by_test false = refl
 
@@ -198,6 +255,7 @@ pub record Settles (ties : List Tie) (old : List ℕ) (r : List ℕ × Option Ti
   pub joined : IsCoarser (label_in r.0) (label_in old)
   pub finest : (label : ℕ → ℕ) → AreRespected label ties → IsCoarser label (label_in old) → IsCoarser label (label_in r.0)
   pub stuck : (t : Tie) → r.1 ≡ Some t → IsStuck ties (label_in old) t
+  pub least : AreLeast (label_in r.0) (label_in old)
 
 coarser_itself : (label : ℕ → ℕ) → IsCoarser label label
 coarser_itself label = record { sides = λ n some. some; joined = λ m n some same. same }
@@ -207,6 +265,17 @@ coarser_along a b c upper lower = record {
   sides = λ n some. upper.sides n (lower.sides n some);
   joined = λ m n some same. upper.joined m n (lower.sides m some) (lower.joined m n some same);
 }
+
+least_along : (a b c : ℕ → ℕ) → IsCoarser c b → AreLeast c b → AreLeast b a → AreLeast c a
+least_along a b c coarser upper lower = record {
+  had = λ n some. by_upper n some (upper.had n some);
+  least = λ m n same. let more = upper.least m n same in let less = lower.least m m refl in omega (arith, more, less);
+}
+  where
+    by_upper : (n : ℕ) → c n ≢ 0 → ((m : ℕ) × (c m ≡ c n) × (b m ≡ c n)) → (m : ℕ) × (c m ≡ c n) × (a m ≡ c n)
+    by_upper n some u =
+        let l = lower.had u.0 (λ none. some (sym u.2 ∙ none)) in
+        (l.0, coarser.joined l.0 u.0 (λ none. some (sym (l.1 ∙ u.2) ∙ none)) l.1 ∙ u.1, l.2 ∙ u.2)
 
 -- the tie at which it stops
 stops : (t : Tie) (ties : List Tie) (old : List ℕ) → is_met old t ≡ false → IsStuck (t ∷ ties) (label_in old) t
@@ -256,6 +325,7 @@ settles [] old = record {
   joined = coarser_itself (label_in old);
   finest = λ label all c. c;
   stuck = λ t is. absurd (let no : ◌≡◌ {A = Option Tie} None (Some t) = is in cc);
+  least = least_itself (label_in old);
 }
 settles (t ∷ ties) old = by_test (is_met old t) refl (settles ties (met old t))
   where
@@ -269,6 +339,7 @@ settles (t ∷ ties) old = by_test (is_met old t) refl (settles ties (met old t)
           joined = coarser_along (label_in old) (label_in (met old t)) (label_in (settled ties (met old t)).0) later.joined (met_coarser old (met old t) t m);
           finest = λ label all c. later.finest label all.1 (met_finest old (met old t) t label m all.0 c);
           stuck = λ u stops_. stuck_later t u ties old is (later.stuck u stops_);
+          least = least_along (label_in old) (label_in (met old t)) (label_in (settled ties (met old t)).0) later.joined later.least (met_least old (met old t) t m);
         }
     by_test false is later = record {
       keeps = λ u holds. holds;
@@ -277,6 +348,7 @@ settles (t ∷ ties) old = by_test (is_met old t) refl (settles ties (met old t)
       joined = coarser_itself (label_in old);
       finest = λ label all c. c;
       stuck = λ u same. subst (IsStuck (t ∷ ties) (label_in old)) (same_Some t u same) (stops t ties old is);
+      least = least_itself (label_in old);
     }
 
 pub settles_as : (ties : List Tie) (old new : List ℕ) (r : Option Tie) → new ≡ (settled ties old).0 → r ≡ (settled ties old).1 → Settles ties old (new, r)

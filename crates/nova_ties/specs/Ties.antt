@@ -1,6 +1,6 @@
 -- Ties between domains, labels that respect them, and how sides are joined.
 -- A label says of each domain whose it is: 0 is trusted, and any other number is a side.
-use Rattle.std.specs.Prelude.{◌≡◌, ◌≢◌, ◌⊎◌, ◌==◌, ◌&&◌, ◌||◌, ℕ, Bool, true, false, not, if◌then◌else◌, Contains, List, [], ◌∷◌, Option, Some, None, map, slice_get}
+use Rattle.std.specs.Prelude.{◌≡◌, ◌≢◌, ◌⊎◌, ◌==◌, ◌≤◌, ◌&&◌, ◌||◌, ℕ, max, min, Bool, true, false, not, if◌then◌else◌, Contains, List, [], ◌∷◌, Option, Some, None, map, slice_get}
 use Rattle.std.specs.List.{AllByRecursion}
 use Rattle.nova_ties.specs.declared.tie.Tie.{Tie}
 
@@ -35,6 +35,11 @@ pub record IsCoarser (label fine : ℕ → ℕ) : Type 0 where
   pub sides : (n : ℕ) → fine n ≢ 0 → label n ≢ 0
   pub joined : (m n : ℕ) → fine m ≢ 0 → fine m ≡ fine n → label m ≡ label n
 
+-- each side has the least label of its own before: one of its domains had it, and none had a lesser
+pub record AreLeast (label old : ℕ → ℕ) : Type 0 where
+  pub had : (n : ℕ) → label n ≢ 0 → (m : ℕ) × (label m ≡ label n) × (old m ≡ label n)
+  pub least : (m n : ℕ) → label m ≡ label n → label n ≤ old m
+
 -- a tie that leads to what is trusted, and that no coarser labels respect that respect all others and trust it, too
 pub record IsStuck (ties : List Tie) (fine : ℕ → ℕ) (t : Tie) : Type 0 where
   pub there : Contains ties t
@@ -47,14 +52,14 @@ pub record IsStuck (ties : List Tie) (fine : ℕ → ℕ) (t : Tie) : Type 0 whe
 abbrev pub renamed : ℕ → ℕ → ℕ → ℕ
 renamed old new label = if label == old then new else label
 
--- whether a tie can be respected, and the labels then
+-- whether a tie can be respected, and the labels then: of the two sides' the lesser stays
 abbrev pub is_met : List ℕ → Tie → Bool
 is_met labels t = is_respected (label_in labels) t || not (label_in labels t.to == 0)
 
 abbrev pub met : List ℕ → Tie → List ℕ
 met labels t =
     if is_respected (label_in labels) t || (label_in labels t.to == 0) then labels
-    else map (renamed (label_in labels t.to) (label_in labels t.from)) labels
+    else map (renamed (max (label_in labels t.from) (label_in labels t.to)) (min (label_in labels t.from) (label_in labels t.to))) labels
 
 -- one tie after another, until one can't be respected
 unfoldable pub settled : List Tie → List ℕ → List ℕ × Option Tie

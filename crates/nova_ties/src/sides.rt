@@ -1,5 +1,5 @@
 ghost use Rattle.std.specs.Prelude.{◌≡◌, ◌≢◌, ◌==◌, ◌||◌, not, ℕ, map, IfNone, IfSome};
-ghost use Rattle.nova_ties.specs.Ties.{AreRespected, IsCoarser, IsStuck, is_met, label_in, met, renamed, settled};
+ghost use Rattle.nova_ties.specs.Ties.{AreLeast, AreRespected, IsCoarser, IsStuck, is_met, label_in, met, renamed, settled};
 
 use crate::labels::{is_respected, label_of};
 use crate::tie::Tie;
@@ -19,7 +19,7 @@ fn rename(labels: &mut [u32], old: u32, new: u32)
     }
 }
 
-/// Has `tie` respected, where it can be: the two sides become one.
+/// Has `tie` respected, where it can be: the two sides become one, of the lesser label.
 fn meet(labels: &mut [u32], tie: Tie) -> bool
     ensures is { result ≡ is_met labels.old tie }
     ensures met { labels.new ≡ met labels.old tie }
@@ -31,7 +31,7 @@ fn meet(labels: &mut [u32], tie: Tie) -> bool
     if to == 0 {
         return false;
     }
-    rename(labels, to, from);
+    rename(labels, from.max(to), from.min(to));
     true
 }
 
@@ -49,14 +49,15 @@ fn settle_each(labels: &mut [u32], ties: &[Tie]) -> Option<Tie>
 }
 
 /// Joins sides in `labels` until all `ties` are respected, where that can be. Trusted are those that were before. No others are joined than must be:
-/// whatever labels respect the ties, and trust no domain that isn't trusted here, have the same label where these have. Where it can't be, a tie is
-/// answered that no such labels respect, if they trust its second domain, which is trusted here.
+/// whatever labels respect the ties, and trust no domain that isn't trusted here, have the same label where these have. A side has the least label that
+/// one of its domains had. Where it can't be, a tie is answered that no such labels respect, if they trust its second domain, which is trusted here.
 pub fn settle(labels: &mut [u32], ties: &[Tie]) -> Option<Tie>
     ensures respected { IfNone result (AreRespected (label_in labels.new) ties.now) }
     ensures trusted { (n : ℕ) → (label_in labels.new n == 0) ≡ (label_in labels.old n == 0) }
     ensures joined { IsCoarser (label_in labels.new) (label_in labels.old) }
     ensures finest { (label : ℕ → ℕ) → AreRespected label ties.now → IsCoarser label (label_in labels.old) → IsCoarser label (label_in labels.new) }
     ensures stuck { IfSome result (λ t. IsStuck ties.now (label_in labels.old) t) }
+    ensures least { AreLeast (label_in labels.new) (label_in labels.old) }
 {
     settle_each(labels, ties)
 }

@@ -35,7 +35,7 @@ use Rattle.law_forest.proofs.Turning.{comes}
 use Rattle.law_turns.specs.Tables.{HasTables}
 use Rattle.law_turns.proofs.Setting.{entry_itself, entry_other}
 use Rattle.law_turns.proofs.TablesFit.{chosen_acts, entry_acts}
-use Rattle.law_sides.specs.Isolated.{AreIsolated, came_by_exit, is_exit_of, is_sending, nothing_flows}
+use Rattle.law_sides.specs.Isolated.{AreIsolated, came_by_exit, is_exit_of, is_sending}
 use Rattle.law_sides.specs.Tied.{beside_at, beside_in, flows_by, gives_of, is_at, lead_of, leads, queue_of, serves_by, serves_of, served, shares_all, strict, takes_by, takes_of, ties, ties_at, ties_by, ties_in, ties_of_kind, waits_all, waits_at, waits_in, weak}
 use Rattle.law_sides.proofs.Isolating.{respected_isolated}
 use Rattle.law_sides.proofs.Respecting.{isolated_respects}
@@ -197,24 +197,24 @@ module _ (shared : ℕ → Bool) (flows : ℕ → ℕ → Bool) (k l : KernelSta
       (flat_same (ties_by shared flows l l.delegations.list) (ties_by shared flows k k.delegations.list) by_same l.delegations.list ∙ ap (flat_map (ties_by shared flows k k.delegations.list)) same.list)
       (flat_same (ties_at shared l) (ties_at shared k) at_same (enumerate_from 0 l.objects) ∙ ap (λ (os : List Object). flat_map (ties_at shared k) (enumerate_from 0 os)) same.objects)
 
-  labels_same : (policy : List Stated) → labels_of policy l ≡ labels_of policy k
-  unfolding labels_of
-  labels_same policy = ap (λ (os : List Object). map (labelled policy) (enumerate_from 0 os)) same.objects
+labels_same : (k l : KernelState) → AreSame k l → (policy : List Stated) → labels_of policy l ≡ labels_of policy k
+unfolding labels_of
+labels_same k l same policy = ap (λ (os : List Object). map (labelled policy) (enumerate_from 0 os)) same.objects
 
 -- the ties of a policy's sides
 policy_same : (k l : KernelState) → AreSame k l → (flows : List (ℕ × ℕ)) (policy : List Stated) → ties_beside flows policy l ≡ ties_beside flows policy k
 policy_same k l same flows policy =
-    ap (λ (labels : List ℕ). ties (shared_by policy) (flows_in flows labels) l) (labels_same (shared_by policy) nothing_flows k l same policy)
+    ap (λ (labels : List ℕ). ties (shared_by policy) (flows_in flows labels) l) (labels_same k l same policy)
     ∙ ties_same (shared_by policy) (flows_in flows (labels_of policy k)) k l same
 
 pub still_isolated : (k l : KernelState) → AreSame k l → (policy : Option (List Stated)) → HasTables l → AreIsolatedBy policy k → AreIsolatedBy policy l
 still_isolated k l same None tables found = record {
   new = found.new;
-  finest = subst (λ (old : List ℕ). AreFinest (ties_beside [] trusted_root l) old found.new) (sym (labels_same (shared_by trusted_root) nothing_flows k l same trusted_root))
+  finest = subst (λ (old : List ℕ). AreFinest (ties_beside [] trusted_root l) old found.new) (sym (labels_same k l same trusted_root))
       (subst (λ (tied : List Tie). AreFinest tied (labels_of trusted_root k) found.new) (sym (policy_same k l same [] trusted_root)) found.finest);
 }
 still_isolated k l same (Some policy) tables isolated =
-    subst (λ (labels : List ℕ). AreIsolated (shared_by policy) (flows_between policy) l (label_in labels)) (sym (labels_same (shared_by policy) nothing_flows k l same policy))
+    subst (λ (labels : List ℕ). AreIsolated (shared_by policy) (flows_between policy) l (label_in labels)) (sym (labels_same k l same policy))
     (respected_isolated l (label_in (labels_of policy k)) tables
     (subst (AreRespected (label_in (labels_of policy k))) (sym (ties_same (shared_by policy) (flows_by (flows_between policy) (label_in (labels_of policy k))) k l same))
     (isolated_respects k (label_in (labels_of policy k)) isolated)))

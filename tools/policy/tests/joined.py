@@ -35,15 +35,28 @@ def flows_in(policy: Path | None) -> set[tuple[str, str]]:
     return {(line[1], line[2]) for line in words if line[:1] == ["flow"]}
 
 
-def joined(ties: list[Tie], side: dict[int, str]) -> tuple[dict[int, str], Tie | None]:
-    """The finest sides that respect all ties, or the first tie that none respect."""
+def lines_in(policy: Path | None) -> list[str]:
+    """The names of a policy's sides, in the order of its lines."""
+    lines = policy.read_text().splitlines() if policy else []
+    words = [line.partition("#")[0].split() for line in lines]
+    return [line[1] for line in words if line[:1] == ["side"]]
+
+
+def first_of(one: str, other: str, lines: list[str]) -> tuple[str, str]:
+    """Two sides, first that of the earlier line; or of the lesser number, behind all that have lines."""
+    before, behind = sorted((one, other), key=lambda name: (lines.index(name), 0) if name in lines else (len(lines), int(name)))
+    return before, behind
+
+
+def joined(ties: list[Tie], side: dict[int, str], lines: list[str]) -> tuple[dict[int, str], Tie | None]:
+    """The finest sides that respect all ties, each called as the first of those that it was joined of; or the first tie that none respect."""
     side = dict(side)
     for tie in ties:
         if is_respected(tie, side):
             continue
-        old, new = side[tie.target.domain], side[tie.source.domain]
-        if old == TRUSTED:
+        if side[tie.target.domain] == TRUSTED:
             return side, tie
+        new, old = first_of(side[tie.source.domain], side[tie.target.domain], lines)
         side = {domain: new if name == old else name for domain, name in side.items()}
     return side, None
 
@@ -63,17 +76,19 @@ def faults_of(told: Told, policy: Path | None) -> list[str]:
     """What is wrong with an answer by its own ties."""
     side = named(told, policy)
     flows = [common.tie for common in told.flows]
-    for place in (place for tie in (*told.ties, *flows) for place in (tie.source, tie.target)):
+    memory = [common.tie for common in told.memory]
+    for place in (place for tie in (*told.ties, *flows, *(memory if policy else ())) for place in (tie.source, tie.target)):
         side.setdefault(place.domain, place.side)
     faults = [f"{tie.text}: its sides are called otherwise" for tie in (*told.ties, *flows) if misnamed(tie.source, side) or misnamed(tie.target, side)]
     faults += [f"{tie.text} flows" for tie in flows if (tie.source.side, tie.target.side) not in flows_in(policy)]
     faults += [f"{tie.text} is a tie" for tie in told.ties if tie.cause == "frames" and (tie.source.side, tie.target.side) in flows_in(policy)]
-    finest, stuck = joined(told.ties, side)
+    finest, stuck = joined(told.ties, side, lines_in(policy))
     if stuck != told.stuck:
         faults.append(f"stuck at {told.stuck}, where the ties have {stuck}")
     if stuck is None and groups(finest) != told.sides:
         faults.append(f"sides {told.sides}, where the ties have {groups(finest)}")
     judged = side if policy else finest
+    faults += [f"{tie.text}: its sides are called otherwise" for tie in memory if misnamed(tie.source, judged) or misnamed(tie.target, judged)]
     broken = next((tie for tie in told.ties if not is_respected(tie, judged)), None)
     if policy is not None and broken != told.breach:
         faults.append(f"a breach by {told.breach}, where the ties have {broken}")

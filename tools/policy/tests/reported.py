@@ -1,7 +1,7 @@
 """The ties of a state, found by other means: from the report of `nova solo`, and from what tenants.nova makes, which a report doesn't tell.
 
-Tenant b's store is given a random range, the policy shares random semaphores and has one tenant flow to the other, or both, and each line of a tie and of what flows
-is compared.
+Tenant b's store is given a random range, the policy shares random semaphores and has one tenant flow to the other, or both, and each line of a tie, of what
+flows and of what two sides read is compared.
 """
 
 from __future__ import annotations
@@ -85,15 +85,26 @@ def ties_by(one: CapRange, ranges: list[CapRange], shared: set[int], flows: set[
         yield from ties_by_semaphore(one, ranges, shared)
 
 
+def common(one: CapRange, other: CapRange) -> str:
+    """How memory of two sides is told."""
+    return f"{SIDES[one.domain]}:{one.domain} {SIDES[other.domain]}:{other.domain} frames cap {one.number} cap {other.number} rights {one.rights} {other.rights}"
+
+
 def flowing(ranges: list[CapRange], flows: set[tuple[str, str]]) -> list[str]:
     """The lines of the memory that flows."""
     memory = [one for one in ranges if one.space is Space.MEMORY]
     return [
-        f"flows {SIDES[one.domain]}:{one.domain} {SIDES[other.domain]}:{other.domain} frames cap {one.number} cap {other.number}"
+        f"flows {common(one, other)}"
         for one in memory
         for other in memory
         if one.rights & WRITE and meet(one, other) and (SIDES[one.domain], SIDES[other.domain]) in flows
     ]
+
+
+def reading(ranges: list[CapRange]) -> list[str]:
+    """The lines of the memory that two sides reach, and that neither may write."""
+    memory = [one for one in ranges if one.space is Space.MEMORY and not one.rights & WRITE and SIDES[one.domain] != "trusted"]
+    return [f"memory {common(one, other)}" for one in memory for other in memory if one.number < other.number and SIDES[one.domain] != SIDES[other.domain] and meet(one, other)]
 
 
 def ties_of(report: Report, shared: set[int], flows: set[tuple[str, str]]) -> list[str]:
@@ -139,7 +150,7 @@ def differing_of(seed: int, program: Path, nova: Path, folder: Path) -> str | No
     file.write_text(SCENARIO.read_text().replace(LINE, f"more:   li x12, {word:#x}"))
     told = subprocess.run([str(program), str(file), "--policy", str(policy)], capture_output=True, text=True, check=False).stdout.splitlines()
     report = subprocess.run([str(nova), "solo", str(file)], capture_output=True, text=True, check=True).stdout
-    lines = [line for line in told if line.startswith(("processor ", "tie ", "shared ", "flows "))]
+    lines = [line for line in told if line.startswith(("processor ", "tie ", "shared ", "flows ", "memory "))]
     read = read_report(report)
-    pairs = zip([*lines, "(the end)"], [*(shared_line(semaphore, read.ranges) for semaphore in sorted(shared)), *flowing(read.ranges, flows), PROCESSOR, *ties_of(read, shared, flows), "(the end)"], strict=False)
+    pairs = zip([*lines, "(the end)"], [*(shared_line(semaphore, read.ranges) for semaphore in sorted(shared)), *flowing(read.ranges, flows), *reading(read.ranges), PROCESSOR, *ties_of(read, shared, flows), "(the end)"], strict=False)
     return next((f"range {word:#x}, shared {sorted(shared)}, flows {sorted(flows)}: {one!r} in place of {other!r}" for one, other in pairs if one != other), None)

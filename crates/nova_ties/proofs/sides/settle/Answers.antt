@@ -23,3 +23,7 @@ pub returns-clause-stuck : goal.returns-clause-stuck
 returns-clause-stuck c =
     some_if c.settle_each.result (λ t. IsStuck c.args.ties.now (label_in c.args.labels.now) t)
     (settles_as c.args.ties.now c.args.labels.now c.settle_each.new.labels c.settle_each.result c.settle_each.ensures.labels c.settle_each.ensures.stuck).stuck
+
+pub returns-clause-least : goal.returns-clause-least
+returns-clause-least c =
+    (settles_as c.args.ties.now c.args.labels.now c.settle_each.new.labels c.settle_each.result c.settle_each.ensures.labels c.settle_each.ensures.stuck).least
