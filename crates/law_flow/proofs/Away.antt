@@ -283,7 +283,8 @@ derive_at k S P T cpu r none within =
     subst (λ (l : KernelState). IsPartitioned l (Of S) T (Of P) → own_turn S l cpu ≡ None → DerivesWithin l (Of S) → DerivesWithin (after l cpu) (Of S)) r.is
     (λ p n w. others_derive r.scenario r.before S P T cpu p n w) r.part none within
 
-sound_there : (k : KernelState) (S P : ℕ → Bool) (T : ℕ → Type 0) → IsReached k S P T → IsSound k
+-- a state that is reached is sound
+pub sound_there : (k : KernelState) (S P : ℕ → Bool) (T : ℕ → Type 0) → IsReached k S P T → IsSound k
 sound_there k S P T r = subst IsSound r.is (reached_sound r.scenario r.before)
 
 -- a turn elsewhere leaves them together, in the first and in the second

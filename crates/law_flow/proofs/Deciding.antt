@@ -46,7 +46,9 @@ use Rattle.nova_model.specs.declared.times.Deadline.{Deadline}
 use Rattle.law_turns.specs.Asked.{IsCalling}
 use Rattle.law_integrity.specs.Rights.{Again, AtCall}
 use Rattle.law_integrity.proofs.Confining.{waits_edge}
-use Rattle.law_flow.specs.Flow.{HasSameClock, IsAtWork, IsCallAtWork, is_at_work, is_revoking}
+use Rattle.law_turns.specs.Giving.{gives_no_first}
+use Rattle.law_turns.specs.Revoking.{is_revoking}
+use Rattle.law_flow.specs.Flow.{HasSameClock, IsAtWork, IsCallAtWork}
 use Rattle.law_flow.proofs.Seeing.{Both, admitted_same, base_same, caller_same, context_same, exit_admitted_same, handler_mine, handler_same, identifier_same, instruction_same, ip_same, local_same, message_same, mtd_same, named_mine, named_same, pd_same, processor_same, semaphore_same, thread_same, told_held, told_of}
 
 -- CALLS
@@ -181,7 +183,7 @@ calling k ec reason q0 q1 state none at h =
       raises = at ∙ ap (λ (n : ℕ). Raised n q0 q1) (eqb-true reason environment_call parts.0);
     }
 
-in_same : (giving revoking : Type 0) (k l : KernelState) (S P : ℕ → Type 0) → Both k l S P → (ec : ℕ) → P ec → S (pd_of k ec) → IsAtWork (HasSameClock k l ec) giving revoking k ec → (t : State) → (context k ec).state ≡ t → is_at_work t ≡ true →
+in_same : (giving revoking : Type 0) (k l : KernelState) (S P : ℕ → Type 0) → Both k l S P → (ec : ℕ) → P ec → S (pd_of k ec) → IsAtWork (HasSameClock k l ec) giving revoking k ec → (t : State) → (context k ec).state ≡ t → gives_no_first t ≡ true →
     is_giving t ≡ false → is_revoking t ≡ false → deed_in l ec t ≡ deed_in k ec t
 in_same giving revoking k l S P b ec p s works Ready is calm none_given unrevoking =
     ap (λ (x : EcState). ready l ec x.recall) (context_same k l S P b ec p s) ∙ by_recall (context k ec).recall refl
@@ -337,7 +339,7 @@ exits_own timed k l S P b ec reason q0 q1 p s = by_portal (exit_portal k ec reas
     by_portal (Ok pt) is =
         by_admit pt (handler_mine k l S P b (pd_of k ec) event_right (plus (event_base k ec) reason) pt s is) (exit_admitted k.contexts ec (handler_of k pt))
 
-in_own : (timed giving revoking : Type 0) (k l : KernelState) (S P : ℕ → Type 0) → Both k l S P → (ec : ℕ) → P ec → S (pd_of k ec) → IsAtWork timed giving revoking k ec → (t : State) → (context k ec).state ≡ t → is_at_work t ≡ true →
+in_own : (timed giving revoking : Type 0) (k l : KernelState) (S P : ℕ → Type 0) → Both k l S P → (ec : ℕ) → P ec → S (pd_of k ec) → IsAtWork timed giving revoking k ec → (t : State) → (context k ec).state ≡ t → gives_no_first t ≡ true →
     is_giving t ≡ false → is_revoking t ≡ false → IsOwn timed P (deed_in k ec t)
 in_own timed giving revoking k l S P b ec p s works Ready is calm none_given unrevoking = by_recall (context k ec).recall refl
   where

@@ -22,7 +22,9 @@ use Rattle.law_forest.specs.Effects.{branch_by, branched, made_by, store_by}
 use Rattle.law_forest.specs.Turns.{turned}
 use Rattle.law_forest.proofs.Leaves.{leaf_facts}
 use Rattle.law_forest.proofs.Members.{contains_from_in, filtered_in, in_from_contains}
-use Rattle.law_flow.specs.Flow.{AreAlike, AreDerivedAlike, AreGivingWithin, AreRevokingWithin, DerivesWithin, HasSameClock, Held, IsAtWork, IsSameRange, IsSide, held_by, is_at_work, is_revoking, unnumbered}
+use Rattle.law_turns.specs.Giving.{gives_no_first}
+use Rattle.law_turns.specs.Revoking.{is_revoking}
+use Rattle.law_flow.specs.Flow.{AreAlike, AreDerivedAlike, AreGivingWithin, AreRevokingWithin, DerivesWithin, HasSameClock, Held, IsAtWork, IsSameRange, IsSide, held_by, unnumbered}
 use Rattle.law_flow.specs.Processors.{unnumbered_event}
 use Rattle.law_flow.proofs.Deciding.{IsOwn, deed_own, deed_same}
 use Rattle.law_flow.proofs.Doing.{branch_none, by_deed, made_none, turned_alike}
@@ -152,7 +154,7 @@ own_both k l S P b first second ec p s works = by_test (is_giving (context k ec)
         paired (HasSameClock k l ec) k l S P (deed k ec) (deed l ec) (gives_items k ec is)
         (given_same k l S P b first second ec p s g.first g.second.unrevoked is works.state)
         (part_is k S ec first s g.first.caller works.state)
-        (part_is l S ec second (subst S (sym (pd_same k l S P b ec p)) s) g.second.caller (ap (λ (x : EcState). is_at_work x.state) (context_same k l S P b ec p s) ∙ works.state))
+        (part_is l S ec second (subst S (sym (pd_same k l S P b ec p)) s) g.second.caller (ap (λ (x : EcState). gives_no_first x.state) (context_same k l S P b ec p s) ∙ works.state))
         (sources_same k l S P b first second ec p s g.first is works.state)
 
 one_of : (timed : Type 0) (k : KernelState) (S P : ℕ → Type 0) (d : Deed) → GivesItems d → ((child : Derivation) (cursor : ℕ) → d ≡ deeds.Gives child cursor → IsPart k S child) → IsOwnDeed timed k S P d

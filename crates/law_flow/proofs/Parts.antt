@@ -45,7 +45,8 @@ use Rattle.law_turns.specs.Left.{IsFirstLeft, IsGivenOf}
 use Rattle.law_turns.proofs.Leaving.{part_given}
 use Rattle.law_integrity.specs.Rights.{GivesFirst, GivesTo, RepliesWith, TakesOfCaller}
 use Rattle.law_integrity.proofs.Parts.{given_rightful}
-use Rattle.law_flow.specs.Flow.{Held, IsGivingWithin, IsUnrevoked, held_by, is_at_work, origin_of, unnumbered}
+use Rattle.law_turns.specs.Giving.{gives_no_first}
+use Rattle.law_flow.specs.Flow.{Held, IsGivingWithin, IsUnrevoked, held_by, origin_of, unnumbered}
 use Rattle.law_flow.proofs.Busy.{unbusy}
 use Rattle.law_flow.proofs.Holds.{AreNext, ComeAlike, HoldAlike, IsTwin, first_same, held_so, next_same}
 use Rattle.law_flow.proofs.Seeing.{Both, context_same, message_same, pd_same, thread_same, transfer_same}
@@ -91,7 +92,7 @@ pub record SameItem (k l : KernelState) (S : ℕ → Type 0) (ec : ℕ) (t : Sta
   pub same : delivery l ec t ≡ delivery k ec t
   pub of : AreItems S (delivery k ec t)
 
-pub item_same : (k l : KernelState) (S P : ℕ → Type 0) → Both k l S P → (ec : ℕ) → P ec → S (pd_of k ec) → IsGivingWithin k S ec → (t : State) → is_giving t ≡ true → is_at_work t ≡ true → SameItem k l S ec t
+pub item_same : (k l : KernelState) (S P : ℕ → Type 0) → Both k l S P → (ec : ℕ) → P ec → S (pd_of k ec) → IsGivingWithin k S ec → (t : State) → is_giving t ≡ true → gives_no_first t ≡ true → SameItem k l S ec t
 item_same k l S P b ec p s within (Granting None) gives works = record {
   same =
       ap₂ (λ (x : Transfer) (y : EcState). taken_from l ec x.item y.caller) (transfer_same k l S P b ec p s) (context_same k l S P b ec p s)
@@ -237,7 +238,7 @@ delivered_same k l S first second alike come v t giver receiver = by_flag (flag 
 -- THE DEED
 
 pub given_same : (k l : KernelState) (S P : ℕ → Type 0) → Both k l S P → IsForest k.delegations → IsForest l.delegations → (ec : ℕ) → P ec → S (pd_of k ec) → IsGivingWithin k S ec → IsUnrevoked l S →
-    is_giving (context k ec).state ≡ true → is_at_work (context k ec).state ≡ true → unnumbered (deed l ec) ≡ unnumbered (deed k ec)
+    is_giving (context k ec).state ≡ true → gives_no_first (context k ec).state ≡ true → unnumbered (deed l ec) ≡ unnumbered (deed k ec)
 unfolding deed
 given_same k l S P b first second ec p s within free gives works =
     ap (λ (x : EcState). unnumbered (deed_in l ec x.state)) (context_same k l S P b ec p s) ∙ by_state (context k ec).state refl gives works
@@ -247,13 +248,13 @@ given_same k l S P b first second ec p s within free gives works =
     by_item (Some v) of =
         delivered_same k l S (record { forest = first; unrevoked = within.unrevoked }) (record { forest = second; unrevoked = free }) b.alike.spaces b.alike.origins v (transfer k ec) of.0 of.1
 
-    by_giving : (t : State) → is_giving t ≡ true → is_at_work t ≡ true →
+    by_giving : (t : State) → is_giving t ≡ true → gives_no_first t ≡ true →
         unnumbered (delivers l (transfer l ec) (delivery l ec t)) ≡ unnumbered (delivers k (transfer k ec) (delivery k ec t))
     by_giving t some calm =
         let its = item_same k l S P b ec p s within t some calm in
         ap₂ (λ (x : Transfer) (o : Option Delivery). unnumbered (delivers l x o)) (transfer_same k l S P b ec p s) its.same ∙ by_item (delivery k ec t) its.of
 
-    by_state : (t : State) → (context k ec).state ≡ t → is_giving t ≡ true → is_at_work t ≡ true → unnumbered (deed_in l ec t) ≡ unnumbered (deed_in k ec t)
+    by_state : (t : State) → (context k ec).state ≡ t → is_giving t ≡ true → gives_no_first t ≡ true → unnumbered (deed_in l ec t) ≡ unnumbered (deed_in k ec t)
     by_state (Granting None) is some calm = by_giving (Granting None) some calm
     by_state Replying is some calm = by_giving Replying some calm
     by_state (Granting (Some new)) is some calm = absurd (cc)
@@ -289,7 +290,7 @@ within_source k child source forest there named fits = by_parent (subst (HasPare
     by_parent h = subst (IsWithin child) (same_id k.delegations.list h.0 source forest.rising (in_from_contains k.delegations.list h.0 h.1) there h.2) h.3
 
 pub part_is : (k : KernelState) (S : ℕ → Type 0) (ec : ℕ) → IsForest k.delegations → S (pd_of k ec) → ((n : ℕ) (mark : Mark) → (context k ec).caller ≡ Some (n, mark) → S (pd_of k n)) →
-    is_at_work (context k ec).state ≡ true → (child : Derivation) (cursor : ℕ) → deed k ec ≡ deeds.Gives child cursor → IsPart k S child
+    gives_no_first (context k ec).state ≡ true → (child : Derivation) (cursor : ℕ) → deed k ec ≡ deeds.Gives child cursor → IsPart k S child
 part_is k S ec forest s served works child cursor is = by_given (subst (IsAllowed k ec) is (deed_allowed k ec))
   where
     by_given : IsGivenChild k ec child → IsPart k S child
@@ -309,11 +310,11 @@ part_is k S ec forest s served works child cursor is = by_given (subst (IsAllowe
         by_side : GivesTo k ec g.source.pd child.pd → IsPart k S child
         by_side (TakesOfCaller caller mark state serves giver receiver) = part (subst S giver (served caller mark serves)) (subst S receiver s)
         by_side (RepliesWith caller mark state serves giver receiver) = part (subst S giver s) (subst S receiver (served caller mark serves))
-        by_side (GivesFirst state giver) = absurd (let works_not : is_at_work (Granting (Some child.pd)) ≡ true = ap is_at_work (sym state) ∙ works in cc)
+        by_side (GivesFirst state giver) = absurd (let works_not : gives_no_first (Granting (Some child.pd)) ≡ true = ap gives_no_first (sym state) ∙ works in cc)
 
 -- the sources of both parts are the same but for numbers
 pub sources_same : (k l : KernelState) (S P : ℕ → Type 0) → Both k l S P → IsForest k.delegations → IsForest l.delegations → (ec : ℕ) → P ec → S (pd_of k ec) → IsGivingWithin k S ec →
-    is_giving (context k ec).state ≡ true → is_at_work (context k ec).state ≡ true → (child twin : Derivation) (cursor at : ℕ) → deed k ec ≡ deeds.Gives child cursor → deed l ec ≡ deeds.Gives twin at →
+    is_giving (context k ec).state ≡ true → gives_no_first (context k ec).state ≡ true → (child twin : Derivation) (cursor at : ℕ) → deed k ec ≡ deeds.Gives child cursor → deed l ec ≡ deeds.Gives twin at →
     (part : IsPart k S child) (also : IsPart l S twin) → IsTwin part.source also.source
 sources_same k l S P b first second ec p s inside gives works child twin cursor at is its part also = by_given (part_given k ec cursor child is) (part_given l ec at twin its)
   where

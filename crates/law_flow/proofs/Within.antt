@@ -19,7 +19,9 @@ use Rattle.law_origins.proofs.Actors.{is_able}
 use Rattle.law_integrity.specs.Confined.{IsIdle, IsMember, Of}
 use Rattle.law_integrity.specs.Rights.{RepliesWith, TakesOfCaller, Again, AtCall, IsAsking}
 use Rattle.law_integrity.proofs.Confining.{acting_one, gives_in, member_pd}
-use Rattle.law_flow.specs.Flow.{AreAlike, DerivesWithin, IsAtWork, IsGivingWithin, IsPartitioned, IsSide, RevokesNothing, is_at_work, is_revoking, own_turn, IsCallAtWork}
+use Rattle.law_turns.specs.Giving.{gives_no_first}
+use Rattle.law_turns.specs.Revoking.{is_revoking}
+use Rattle.law_flow.specs.Flow.{AreAlike, DerivesWithin, IsAtWork, IsGivingWithin, IsPartitioned, IsSide, RevokesNothing, own_turn, IsCallAtWork}
 use Rattle.law_flow.proofs.Pairs.{IsOwnDeed, own_one}
 use Rattle.law_flow.proofs.Turns.{alike_itself, own_acts, own_is, own_there}
 use Rattle.nova_calls.specs.Hypercalls.{call_of}
@@ -42,13 +44,13 @@ own_member S k cpu ec sc sound own = by_object (slice_get k.objects ec) refl kin
 
 -- and so is whom it takes items of or gives them to
 pub caller_within : (S P : ℕ → Bool) (T : ℕ → Type 0) (k : KernelState) (cpu ec sc : ℕ) → IsSound k → IsPartitioned k (Of S) T (Of P) → own_turn S k cpu ≡ Some (ec, sc) →
-    is_giving (context k ec).state ≡ true → is_at_work (context k ec).state ≡ true → (n : ℕ) (mark : Mark) → (context k ec).caller ≡ Some (n, mark) → S (pd_of k n) ≡ true
+    is_giving (context k ec).state ≡ true → gives_no_first (context k ec).state ≡ true → (n : ℕ) (mark : Mark) → (context k ec).caller ≡ Some (n, mark) → S (pd_of k n) ≡ true
 caller_within S P T k cpu ec sc sound c own gives works n mark serves = by_state (context k ec).state refl gives works
   where
     mine : IsMember k (Of S) ec
     mine = own_member S k cpu ec sc sound own
 
-    by_state : (t : State) → (context k ec).state ≡ t → is_giving t ≡ true → is_at_work t ≡ true → S (pd_of k n) ≡ true
+    by_state : (t : State) → (context k ec).state ≡ t → is_giving t ≡ true → gives_no_first t ≡ true → S (pd_of k n) ≡ true
     by_state (Granting None) is some calm =
         (gives_in k (Of S) ec (pd_of k n) (pd_of k ec) sound c.apart.separate.first (acting_one k cpu ec (own_acts S k cpu ec sc (own_is S k cpu ec sc own))) mine (TakesOfCaller n mark is serves refl refl)).0
     by_state Replying is some calm =
@@ -61,7 +63,7 @@ there_by None range own is = absurd (cc)
 there_by (Some x) range own is = (x, refl, is)
 
 pub within_partition : (S P : ℕ → Bool) (T : ℕ → Type 0) (k : KernelState) (cpu ec sc : ℕ) → IsSound k → IsPartitioned k (Of S) T (Of P) → own_turn S k cpu ≡ Some (ec, sc) →
-    is_giving (context k ec).state ≡ true → is_at_work (context k ec).state ≡ true → RevokesNothing k (Of S) → IsGivingWithin k (Of S) ec
+    is_giving (context k ec).state ≡ true → gives_no_first (context k ec).state ≡ true → RevokesNothing k (Of S) → IsGivingWithin k (Of S) ec
 within_partition S P T k cpu ec sc sound c own gives works none = record {
   caller = caller_within S P T k cpu ec sc sound c own gives works;
   unrevoked = record {
@@ -109,7 +111,7 @@ own_at timed revoking S P T k cpu ec sc sound c own works within =
 pub works_too : (timed giving further revoking : Type 0) (k l : KernelState) (S P : ℕ → Type 0) → Both k l S P → (ec : ℕ) → P ec → S (pd_of k ec) → (giving → further) →
     IsAtWork timed giving revoking k ec → IsAtWork timed further revoking l ec
 works_too timed giving further revoking k l S P b ec p s f works = record {
-  state = ap is_at_work state ∙ works.state;
+  state = ap gives_no_first state ∙ works.state;
   calls = λ asks_. subst (λ (x : EcState). IsCallAtWork timed revoking (call_of x.regs)) (sym (context_same k l S P b ec p s)) (works.calls (by_asks asks_));
   gives = λ is. f (works.gives (sym (ap is_giving state) ∙ is));
   revokes = λ is. works.revokes (sym (ap is_revoking state) ∙ is);

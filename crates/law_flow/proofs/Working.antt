@@ -27,7 +27,9 @@ use Rattle.nova_model.specs.declared.context.State.TheVariants.{Revoking}
 use Rattle.nova_model.specs.declared.deed.Deed.TheVariants.{Gives}
 use Rattle.law_integrity.specs.Confined.{Of}
 use Rattle.law_flow.specs.Examples.{first_domains, given_page, two_homes}
-use Rattle.law_flow.specs.Flow.{AreAtWorkTimeless, IsAtWork, IsCallAtWork, RevokesNothing, is_at_work, is_revoking, own_turn}
+use Rattle.law_turns.specs.Giving.{gives_no_first}
+use Rattle.law_turns.specs.Revoking.{is_revoking}
+use Rattle.law_flow.specs.Flow.{AreAtWorkTimeless, IsAtWork, IsCallAtWork, RevokesNothing, own_turn}
 
 -- A CALL
 
@@ -72,7 +74,7 @@ none_revokes k S all n range own is s = by_entry (context_at k n) (calm_at k.con
 
 abbrev is_work : KernelState → Option (ℕ × ℕ) → Bool
 is_work k None = true
-is_work k (Some p) = is_at_work (context k p.0).state && (is_call_at_work (call_of (context k p.0).regs) && (not (is_giving (context k p.0).state) || list_all is_calm k.contexts))
+is_work k (Some p) = gives_no_first (context k p.0).state && (is_call_at_work (call_of (context k p.0).regs) && (not (is_giving (context k p.0).state) || list_all is_calm k.contexts))
 
 abbrev are_work : (ℕ → Bool) → KernelState → List ℕ → Bool
 are_work S k [] = true
@@ -85,7 +87,7 @@ unless_giving false u h is = absurd (cc)
 work_so : (S : ℕ → Bool) (k : KernelState) (o : Option (ℕ × ℕ)) → is_work k o ≡ true → (ec sc : ℕ) → o ≡ Some (ec, sc) → IsAtWork ⊥ (RevokesNothing k (Of S)) (true ≡ true) k ec
 work_so S k None h ec sc is = absurd (cc)
 work_so S k (Some p) h ec sc is =
-    let at_work = and_parts (is_at_work (context k p.0).state) (is_call_at_work (call_of (context k p.0).regs) && (not (is_giving (context k p.0).state) || list_all is_calm k.contexts)) h in
+    let at_work = and_parts (gives_no_first (context k p.0).state) (is_call_at_work (call_of (context k p.0).regs) && (not (is_giving (context k p.0).state) || list_all is_calm k.contexts)) h in
     let rest = and_parts (is_call_at_work (call_of (context k p.0).regs)) (not (is_giving (context k p.0).state) || list_all is_calm k.contexts) at_work.1 in
     subst (IsAtWork ⊥ (RevokesNothing k (Of S)) (true ≡ true) k) (ap (λ (q : ℕ × ℕ). q.0) (same_Some {A = ℕ × ℕ} p (ec, sc) is))
     (record {

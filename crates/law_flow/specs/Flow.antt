@@ -29,12 +29,14 @@ use Rattle.nova_model.specs.declared.budget.Budget.{Budget}
 use Rattle.nova_model.specs.declared.context.EcState.{EcState}
 use Rattle.nova_model.specs.declared.context.Mark.{Mark}
 use Rattle.nova_model.specs.declared.context.State.{State}
-use Rattle.nova_model.specs.declared.context.State.TheVariants.{Blocked, Granting, Revoking}
+use Rattle.nova_model.specs.declared.context.State.TheVariants.{Blocked, Revoking}
 use Rattle.nova_model.specs.declared.delegation.Derivation.{Derivation}
 use Rattle.nova_model.specs.declared.deed.Deed.{Deed}
 use Rattle.nova_model.specs.declared.deed.Deed.TheVariants.{Gives, Removes}
 use Rattle.nova_model.specs.declared.log.LogByte.{LogByte}
 use Rattle.nova_model.specs.declared.times.AlarmState.{AlarmState}
+use Rattle.law_turns.specs.Giving.{gives_no_first}
+use Rattle.law_turns.specs.Revoking.{is_revoking}
 use Rattle.law_integrity.specs.Confined.{AreSetsApart, HoldsAny, IsOwned, Of, Reach}
 use Rattle.law_integrity.specs.Rights.{IsAsking}
 
@@ -106,16 +108,6 @@ pub record AreAlike (k l : KernelState) (S P : ℕ → Type 0) : Type 0 where
 
 -- A SIDE AT WORK
 
--- no first range is under way
-abbrev pub is_at_work : State → Bool
-is_at_work (Granting (Some new)) = false
-is_at_work other = true
-
--- a revoke is under way
-abbrev pub is_revoking : State → Bool
-is_revoking (Revoking range own) = true
-is_revoking other = false
-
 -- the call makes no object; of a down with a deadline the first is asked, and of a revoke the second
 abbrev pub IsCallAtWork : Type 0 → Type 0 → Result Call Status → Type 0
 IsCallAtWork timed revoking (Ok (CreatePd target pd first)) = ⊥
@@ -129,7 +121,7 @@ IsCallAtWork timed revoking other = Unit {0}
 
 -- Its turn makes nothing, and if it makes a hypercall, this is such a one. Of one that gives items, and of one that revokes, something else is asked, too.
 pub record IsAtWork (timed giving revoking : Type 0) (k : KernelState) (ec : ℕ) : Type 0 where
-  pub state : is_at_work (context k ec).state ≡ true
+  pub state : gives_no_first (context k ec).state ≡ true
   pub calls : IsAsking k ec → IsCallAtWork timed revoking (call_of (context k ec).regs)
   pub gives : is_giving (context k ec).state ≡ true → giving
   pub revokes : is_revoking (context k ec).state ≡ true → revoking

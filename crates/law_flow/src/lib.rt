@@ -13,7 +13,8 @@ ghost use Rattle.nova_model.specs.declared.deed.Deed.TheVariants.{Gives};
 ghost use Rattle.law_isolation.specs.Sound.{IsSound};
 ghost use Rattle.law_integrity.specs.Confined.{Of};
 ghost use Rattle.law_flow.specs.Examples.{first_domains, first_objects, first_processors, given_page, other_domains, two_homes};
-ghost use Rattle.law_flow.specs.Flow.{AreAlike, AreAlikeAlong, AreAtWork, AreAtWorkTimeless, AreDerivedAlike, AreGivingWithin, AreLeftAlone, AreRevokingWithin, DerivesWithin, HasSameClock, IsAtWork, IsGivingWithin, IsLeftAlone, IsPartitioned, IsSide, IsTimeless, is_revoking, own_turn, schedule, unnumbered};
+ghost use Rattle.law_flow.specs.Flow.{AreAlike, AreAlikeAlong, AreAtWork, AreAtWorkTimeless, AreDerivedAlike, AreGivingWithin, AreLeftAlone, AreRevokingWithin, DerivesWithin, HasSameClock, IsAtWork, IsGivingWithin, IsLeftAlone, IsPartitioned, IsSide, IsTimeless, own_turn, schedule, unnumbered};
+ghost use Rattle.law_turns.specs.Revoking.{is_revoking};
 ghost use Rattle.law_flow.specs.Processors.{AreAlikeAtHome, AreAtHome, AreTimed, IsDivided};
 
 /// Take two sound states in which a side's part is the same, and a turn of the same execution context of the side in

@@ -11,13 +11,12 @@ use Rattle.nova_model.specs.Guests.{input, inputs}
 use Rattle.nova_model.specs.Runs.{after}
 use Rattle.nova_model.specs.State.{KernelState, pd_in, pd_of}
 use Rattle.nova_model.specs.declared.deed.Deed.{Deed}
-use Rattle.law_isolation.specs.Sound.{IsSound, IsVirtual}
-use Rattle.law_isolation.proofs.Runs.{reached_sound}
+use Rattle.law_isolation.specs.Sound.{IsVirtual}
 use Rattle.law_origins.proofs.Actors.{object_stays}
 use Rattle.law_integrity.specs.Confined.{Of, more}
 use Rattle.law_flow.specs.Flow.{AreAlike, AreAtWork, IsAtWork, IsPartitioned, RevokesNothing, own_turn, unnumbered, DerivesWithin}
 use Rattle.law_flow.proofs.Within.{own_at}
-use Rattle.law_flow.proofs.Away.{GoesHome, IsReached, away_at, away_further, home_at, home_further, together_first, together_second}
+use Rattle.law_flow.proofs.Away.{GoesHome, IsReached, away_at, away_further, home_at, home_further, sound_there, together_first, together_second}
 use Rattle.law_flow.proofs.Home.{AreTogether, HomeTurn}
 use Rattle.law_flow.proofs.Turns.{AreTwins, alike_flipped, alike_through}
 use Rattle.law_guests.proofs.Facts.{ViewFacts}
@@ -42,9 +41,6 @@ quiet_at f k S P T cpu g r none is =
     subst (λ (m : KernelState). IsPartitioned m (Of S) T (Of P) → own_turn S m cpu ≡ None → IsVirtual m g → S (pd_of m g) ≡ true → input m cpu g ≡ None) r.is
     (λ part nobody virtual mine. others_tell_nothing f r.scenario r.before S P T cpu g part virtual mine nobody) r.part none is.virtual is.mine
 
-sound_at : (k : KernelState) (S P : ℕ → Bool) (T : ℕ → Type 0) → IsReached k S P T → IsSound k
-sound_at k S P T r = subst IsSound r.is (reached_sound r.scenario r.before)
-
 -- in a turn of a processor of the side's both meet the same
 home_met : ViewFacts → (revokes : Bool) (k l : KernelState) (S P C : ℕ → Bool) (T U : ℕ → Type 0) (cpu g : ℕ) → IsReached k S P T → IsReached l S P U → AreAlike k l (Of S) (Of P) → HomeTurn revokes k l S P C cpu →
     ((ec sc : ℕ) → own_turn S k cpu ≡ Some (ec, sc) → IsAtWork (Unit {0}) (RevokesNothing k (Of S)) (revokes ≡ true) k ec) → (revokes ≡ true → DerivesWithin k (Of S)) → IsGuestOf k S g → IsGuestOf l S g → input l cpu g ≡ input k cpu g
@@ -65,7 +61,7 @@ home_met f revokes k l S P C T U cpu g r q alike step works within is also = by_
         let same : (p.0, unnumbered (deed l p.0)) ≡ (o.0, unnumbered (deed k o.0)) = same_Some {A = ℕ × Deed} (p.0, unnumbered (deed l p.0)) (o.0, unnumbered (deed k o.0)) (deeds_so (Some o) (Some p) first second) in
         let who : p.0 ≡ o.0 = ap (λ (x : ℕ × Deed). x.0) same in
         let done : unnumbered (deed l o.0) ≡ unnumbered (deed k o.0) = ap (λ (n : ℕ). unnumbered (deed l n)) (sym who) ∙ ap (λ (x : ℕ × Deed). x.1) same in
-        let twins : AreTwins k l S P = record { side = r.part.side; alike = alike; first = sound_at k S P T r; second = sound_at l S P U q } in
+        let twins : AreTwins k l S P = record { side = r.part.side; alike = alike; first = sound_there k S P T r; second = sound_there l S P U q } in
         let theirs : own_turn S l cpu ≡ Some (o.0, p.1) = second ∙ ap (λ (n : ℕ). Some (n, p.1)) who in
         own_met f (Unit {0}) k l S P cpu cpu o.0 o.1 p.1 g twins first theirs (own_at (Unit {0}) (revokes ≡ true) S P T k cpu o.0 o.1 twins.first r.part first (works o.0 o.1 first) within) done is.virtual is.mine
 

@@ -32,7 +32,9 @@ use Rattle.law_isolation.proofs.Runs.{reached_sound}
 use Rattle.law_origins.specs.Giving.{Acts}
 use Rattle.law_integrity.specs.Confined.{Of}
 use Rattle.law_integrity.specs.Rights.{Again, AtCall, IsAsking}
-use Rattle.law_flow.specs.Flow.{AreAtWorkTimeless, AreRevokingWithin, GivesWithin, IsAtWork, IsSide, RevokesNothing, is_at_work, is_revoking, own_turn}
+use Rattle.law_turns.specs.Giving.{gives_no_first}
+use Rattle.law_turns.specs.Revoking.{is_revoking}
+use Rattle.law_flow.specs.Flow.{AreAtWorkTimeless, AreRevokingWithin, GivesWithin, IsAtWork, IsSide, RevokesNothing, own_turn}
 use Rattle.law_flow.proofs.Deriving.{revoking_itself, within_by}
 use Rattle.law_flow.proofs.Looking.{AllAt, IsCalm, at_all, calm_edge, calm_wait, entry_at, led, looked_up, no}
 use Rattle.law_turns.specs.Links.{caller_at as caller_of, state_at as state_of}
@@ -202,10 +204,10 @@ revoking = revoking_itself first (Of tenant_domain) (reached_sound served_tenant
 
 -- AT WORK
 
-works_as : (k : KernelState) (s : State) → (context k 10).state ≡ s → is_at_work s ≡ true → is_giving s ≡ false → is_revoking s ≡ false → ((handler : ℕ) → s ≡ Helping handler → ⊥) → is_thread k 10 ≡ false →
+works_as : (k : KernelState) (s : State) → (context k 10).state ≡ s → gives_no_first s ≡ true → is_giving s ≡ false → is_revoking s ≡ false → ((handler : ℕ) → s ≡ Helping handler → ⊥) → is_thread k 10 ≡ false →
     IsAtWork ⊥ (RevokesNothing k (Of tenant_domain)) (false ≡ true) k 10
 works_as k s is working calm unrevoking never none = record {
-  state = ap is_at_work is ∙ working;
+  state = ap gives_no_first is ∙ working;
   calls = λ asks. absurd (by_asks asks);
   gives = λ h. absurd (let both : false ≡ true = sym (ap is_giving is ∙ calm) ∙ h in cc);
   revokes = λ h. sym (ap is_revoking is ∙ unrevoking) ∙ h;

@@ -19,8 +19,9 @@ use Rattle.law_integrity.specs.Trusted.{IsWithinPolicy, MayWait, OrTrusted}
 use Rattle.law_integrity.proofs.Confining.{member_pd}
 use Rattle.law_integrity.proofs.Edges.{at_index}
 use Rattle.law_integrity.proofs.Labels.{IsEc, context_ec, edge_ec, local_ec}
+use Rattle.law_turns.specs.Giving.{gives_no_first}
 use Rattle.law_sides.specs.Resting.{is_resting, is_resting_in}
-use Rattle.law_sides.specs.Roles.{AreHarmless, controls_alone, domain_of, gives_no_first, is_bare, is_controlled, is_mute, is_no_grant, is_none_or, is_other, is_side, is_uncalled, target_domain, waits_for_none, waits_within, waits_without}
+use Rattle.law_sides.specs.Roles.{AreHarmless, controls_alone, domain_of, is_bare, is_controlled, is_mute, is_no_grant, is_none_or, is_other, is_side, is_uncalled, target_domain, waits_for_none, waits_within, waits_without}
 use Rattle.law_sides.proofs.Entries.{as_member, edge_there, grant_there}
 use Rattle.law_sides.proofs.Muted.{AreMute}
 use Rattle.law_sides.proofs.Roles.{Bare, IsBare, IsMute, Living, Mute, Rests, Role, bare_context, bare_holds, mute_context, mute_own, mute_unreached, rest_resting, rest_unreached, role, side_context}

@@ -13,8 +13,9 @@ use Rattle.nova_model.specs.declared.context.EcState.{EcState}
 use Rattle.nova_model.specs.declared.delegation.Derivation.{Derivation}
 use Rattle.law_turns.specs.Tables.{HasTables}
 use Rattle.law_integrity.proofs.Labels.{IsEc, context_ec}
+use Rattle.law_turns.specs.Giving.{gives_no_first}
 use Rattle.law_sides.specs.Resting.{is_resting}
-use Rattle.law_sides.specs.Roles.{AreHarmless, is_at_rest, is_bare, is_bare_by, is_bare_in, is_controlled, is_domain, is_held, is_if_there, is_mute, is_mute_by, is_mute_in, is_no_grant, is_none_or, is_other, is_powerless, is_reached_by, is_uncalled, gives_no_first, rests_by, rests_in, target_domain, waits_for_none, waits_within, waits_without}
+use Rattle.law_sides.specs.Roles.{AreHarmless, is_at_rest, is_bare, is_bare_by, is_bare_in, is_controlled, is_domain, is_held, is_if_there, is_mute, is_mute_by, is_mute_in, is_no_grant, is_none_or, is_other, is_powerless, is_reached_by, is_uncalled, rests_by, rests_in, target_domain, waits_for_none, waits_within, waits_without}
 use Rattle.law_sides.proofs.Lists.{all_of, numbered_at, of_one}
 
 -- TESTS OF ALL

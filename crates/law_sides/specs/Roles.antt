@@ -15,6 +15,7 @@ use Rattle.nova_model.specs.declared.context.Mark.TheVariants.{Call}
 use Rattle.nova_model.specs.declared.context.State.{State}
 use Rattle.nova_model.specs.declared.context.State.TheVariants.{Granting}
 use Rattle.nova_model.specs.declared.delegation.Derivation.{Derivation}
+use Rattle.law_turns.specs.Giving.{gives_no_first}
 use Rattle.law_sides.specs.Resting.{is_resting}
 
 -- WHERE A CAPABILITY LEADS
@@ -62,10 +63,6 @@ is_if_there p (Some x) = p x
 abbrev pub is_no_grant : State → Bool
 is_no_grant (Granting new) = false
 is_no_grant other = true
-
-abbrev pub gives_no_first : State → Bool
-gives_no_first (Granting (Some new)) = false
-gives_no_first other = true
 
 -- it serves no caller that called
 abbrev pub is_uncalled : Option (ℕ × Mark) → Bool

@@ -40,7 +40,7 @@ use Rattle.law_forest.proofs.Running.{revokes_there}
 use Rattle.law_forest.proofs.Turning.{outcome, passing_none}
 use Rattle.law_forest.proofs.Walk.{IfDone, deed_holds, sm_ctrl_holds}
 use Rattle.law_turns.specs.Keeping.{IsKept}
-use Rattle.law_turns.specs.Revoking.{AsksRevoke, HasRevoked, revoke_after, revoke_in_turn, running_after}
+use Rattle.law_turns.specs.Revoking.{AsksRevoke, HasRevoked, is_revoking, revoke_after, revoke_in_turn, running_after}
 use Rattle.law_turns.proofs.Awaiting.{acts_there, same_or_not}
 use Rattle.law_turns.proofs.Courses.{edited_length}
 use Rattle.law_turns.proofs.TablesFit.{TablesFit, chosen_acts}
@@ -61,10 +61,6 @@ abbrev among : List Object → Contexts → ℕ → Option Revocation
 among os cs e = revoke_at (pd_in (slice_get os e)) (ec_in cs e)
 
 -- a context that doesn't revoke
-abbrev is_revoking : State → Bool
-is_revoking (Revoking range own) = true
-is_revoking other = false
-
 quiet_none : (pd : ℕ) (s : State) → is_revoking s ≡ false → revoke_by pd s ≡ None
 quiet_none pd (Revoking range own) quiet = absurd (cc)
 quiet_none pd other quiet = refl

@@ -1,5 +1,5 @@
 -- Execution contexts that give items: what, to which, and how far they are.
-use Rattle.std.specs.Prelude.{◌≡◌, ◌≢◌, ◌<◌, ◌≤◌, ℕ, ◌+◌, ◌-◌, ◌^◌, bit_and, Contains, ◌==◌, ◌&&◌, true, false, if◌then◌else◌, nat_lt, List, [], ◌∷◌, Option, Some, None, Ok, slice_get}
+use Rattle.std.specs.Prelude.{◌≡◌, ◌≢◌, ◌<◌, ◌≤◌, ℕ, ◌+◌, ◌-◌, ◌^◌, bit_and, Contains, ◌==◌, ◌&&◌, Bool, true, false, if◌then◌else◌, nat_lt, List, [], ◌∷◌, Option, Some, None, Ok, slice_get}
 use Rattle.nova_model.specs.Edges.{is_giving}
 use Rattle.rv_model.specs.Registers.{reg}
 use Rattle.nova_objects.specs.declared.object.Object.TheVariants.{Pd}
@@ -23,6 +23,11 @@ use Rattle.nova_model.specs.declared.event.EventKind.{EventKind}
 use Rattle.nova_model.specs.declared.event.EventKind.TheVariants.{Irq, Late, Made, Skip, Tick}
 use Rattle.nova_model.specs.declared.transfer.Delivery.{Delivery}
 use Rattle.nova_model.specs.declared.transfer.Job.{Job}
+
+-- no first range is under way
+abbrev pub gives_no_first : State → Bool
+gives_no_first (Granting (Some new)) = false
+gives_no_first other = true
 
 -- a range of one protection domain, given to another at the same places
 abbrev pub whole : Range → Rights → ℕ → ℕ → Job

@@ -1,5 +1,5 @@
 -- Revokes that run, along deeds and turns.
-use Rattle.std.specs.Prelude.{◌≡◌, ℕ, ◌==◌, Bool, if◌then◌else◌, List, length, Option, Some, None, Ok, option_and_then}
+use Rattle.std.specs.Prelude.{◌≡◌, ℕ, ◌==◌, Bool, true, false, if◌then◌else◌, List, length, Option, Some, None, Ok, option_and_then}
 use Rattle.std.specs.List.{filter_map, range_with_len}
 use Rattle.nova_calls.specs.Hypercalls.{call_of}
 use Rattle.nova_calls.specs.declared.call.Call.TheVariants.{Revoke}
@@ -10,8 +10,15 @@ use Rattle.nova_model.specs.Revokes.{Revocation, next_leaf}
 use Rattle.nova_model.specs.Running.{Running, revoke_by, revoke_of, running_of}
 use Rattle.nova_model.specs.State.{KernelState, context, context_at, pd_of}
 use Rattle.nova_model.specs.declared.context.EcState.{EcState}
+use Rattle.nova_model.specs.declared.context.State.{State}
+use Rattle.nova_model.specs.declared.context.State.TheVariants.{Revoking}
 use Rattle.nova_model.specs.declared.deed.Deed.{Deed}
 use Rattle.nova_model.specs.declared.deed.Deed.TheVariants.{Revokes, Returns}
+
+-- a revoke is under way
+abbrev pub is_revoking : State → Bool
+is_revoking (Revoking range own) = true
+is_revoking other = false
 
 -- no revoke runs, whatever the protection domain
 abbrev pub AreCalm : KernelState → Type 0

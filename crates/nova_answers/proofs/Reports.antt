@@ -14,7 +14,7 @@ use Rattle.nova_order.specs.declared.block.Block.{Block}
 use Rattle.nova_order.proofs.BoundLemmas.{processors_of, turns_within}
 use Rattle.nova_report.specs.Report.{report}
 use Rattle.nova_boot.specs.Boot.{scenario_of}
-pub use Rattle.nova_boot.proofs.Started.{boot_turns, boot_cpus}
+pub use Rattle.nova_boot.proofs.Started.{boot_cpus}
 use Rattle.nova_scenario.specs.declared.scenario.Scenario.{Scenario as ScenarioText}
 use Rattle.nova_answers.specs.Prepared.{IsReportOf, IsTogether, IsAlone}
 use Rattle.nova_finished.specs.Finished.{IsFinished}

@@ -1,2 +1,3 @@
+pub mod Plain
 pub mod LawLemmas
 pub mod Parsed

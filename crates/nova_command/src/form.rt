@@ -1,14 +1,10 @@
-// The form of the command line, and what words give to it.
-ghost use Rattle.std.specs.Prelude.{◌≡◌, false, map, IfOk};
+// The form of the command line.
+ghost use Rattle.std.specs.Prelude.{◌≡◌, false, IfOk};
 ghost use Rattle.clap.specs.Simple.{app_of};
-ghost use Rattle.clap.specs.Walk.{rows_of, rule_of};
-ghost use Rattle.clap.specs.Matches.{found_of};
-ghost use Rattle.nova_command.specs.Form.{form, named, limit_option, given, given_in};
-ghost use Rattle.nova_command.specs.CommandFault.{AnswersBy};
+ghost use Rattle.clap.specs.Walk.{rule_of};
+ghost use Rattle.nova_command.specs.Form.{form, named, limit_option};
 
-use crate::fault::CommandFault;
-use crate::parsing::parse;
-use clap::{Arg, ArgMatches, Command};
+use clap::{Arg, Command};
 use std::alloc::{AllocError, Global};
 
 /// The limit of turns, which is one million where none is given.
@@ -32,19 +28,8 @@ fn named<'a>(alloc: Global) -> Result<Command<'a>, AllocError>
 }
 
 /// The word of the command, up to two names, and the limit.
-fn form<'a>(alloc: Global) -> Result<Command<'a>, AllocError>
+pub(crate) fn form<'a>(alloc: Global) -> Result<Command<'a>, AllocError>
     ensures { IfOk result (λ command. app_of command ≡ form) }
 {
     named(alloc)?.arg(limit(alloc))
-}
-
-/// What words give to the form, where the first of them is the program's name.
-#[tactic(auto, unfolding(crate::specs::Form::given))]
-pub(crate) fn matches_of<'a>(
-    alloc: Global,
-    words: &'a [&'a str],
-) -> Result<ArgMatches<'a>, CommandFault>
-    ensures { AnswersBy (λ matches. given_in (rows_of (found_of matches))) (given (map (λ word. word.now) words.now)) result }
-{
-    parse(form(alloc)?, words)
 }

@@ -9,10 +9,10 @@ ghost use Rattle.nova_command.specs.CommandFault.{Answers};
 
 use crate::command::Command;
 use crate::fault::CommandFault;
-use crate::form::matches_of;
+use crate::form::form;
 use crate::limit::{read_limit, read_size};
 use crate::name::Name;
-use crate::parsing::{text_of, with_program_name};
+use crate::parsing::{parse, text_of, with_program_name};
 use crate::verb::Verb;
 use clap::ArgMatches;
 use std::alloc::Global;
@@ -23,13 +23,13 @@ use std::alloc::Global;
 /// N and NUMBER are decimal digits, or `0x` and hexadecimal digits. N is a number from 1 to 10,000,000, for `check` too, which
 /// has no use for it; where it is not given, the limit is 1,000,000. NUMBER is one from 1 to 90,000. `Usage` comes exactly where the words are no command, and
 /// asking for help or for the version is none. `Memory` says nothing of the words.
-#[tactic(auto, unfolding(crate::specs::Command::command))]
+#[tactic(auto, unfolding(crate::specs::Command::command, crate::specs::Form::given), using(crate::proofs::Plain::plain))]
 pub fn read_command(alloc: Global, words: &[String]) -> Result<Command, CommandFault>
     ensures exact { Answers (command (map string_bytes words.now)) result }
     ensures bounds { IfOk result HasBounds }
 {
     let named = with_program_name(alloc, "nova", words)?;
-    let matches = matches_of(alloc, named.as_slice())?;
+    let matches = parse(form(alloc)?, named.as_slice())?;
     command_of(alloc, &matches)
 }
 

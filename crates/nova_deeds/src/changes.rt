@@ -26,7 +26,7 @@ fn raise(contexts: &mut Ecs, ec: u32, reason: u32, q0: u32, q1: u32)
 {
     let is_recalled = stays_recalled(contexts.context(ec), reason);
     contexts.set_recall(ec, is_recalled);
-    nova_exit::raise(contexts, ec, reason, q0, q1);
+    nova_ipc::exits::raise(contexts, ec, reason, q0, q1);
 }
 
 /// Changes the execution context `ec` as its `deed` does, where that tells others nothing.
@@ -38,7 +38,7 @@ pub fn change(contexts: &mut Ecs, ec: u32, deed: Deed)
 {
     match deed {
         Deed::Raises { reason, q0, q1 } => raise(contexts, ec, reason, q0, q1),
-        Deed::Dies { .. } => nova_exit::die(contexts, ec),
+        Deed::Dies { .. } => nova_ipc::exits::die(contexts, ec),
         Deed::Refuses { status, .. } => contexts.answer(ec, status, None),
         Deed::Tells { value, .. } => contexts.answer(ec, Status::Success, Some(value)),
         Deed::Makes { .. } | Deed::Recalls { .. } | Deed::Names { .. } => {

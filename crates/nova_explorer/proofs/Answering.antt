@@ -2,7 +2,7 @@
 use Rattle.std.proofs.Common.{◌≡◌, ℕ, List, inl, inr, Result, Ok, Err, subst, sym}
 use Rattle.nova_scenario.specs.declared.scenario.Scenario.{Scenario as ScenarioText}
 use Rattle.nova_explorer.specs.Came.{IsScenarioFault}
-use Rattle.nova_explorer.specs.Exit.{IsUnwritten, of_scenario}
+use Rattle.nova_explorer.specs.Exit.{of_scenario}
 use Rattle.nova_explorer.specs.Main.{IsAnswer, IsExplored, IsFault, IsPrepared, IsSent, IsToldOf}
 use Rattle.nova_io.specs.Outside.{Depots, Sinks}
 use Rattle.nova_loading.specs.Came.{IsScenarioLoaded, ScenarioCame}
@@ -65,14 +65,3 @@ module _ {D O : Type 0} (d : Depots D) (o : Sinks O) (q : Request) (old new : D)
   sent t (exit.Scenario line why) told out = absurd out
   sent t exit.Absent told out = absurd out
   sent t exit.Memory told out = absurd out
-
--- then something is written
-pub written : {O : Type 0} (o : Sinks O) (t : Told) (e : Exit) (before after : O) → IsSent o t e before after → IsUnwritten e → after ≡ before
-written o t (exit.Told verdict) before after is un = absurd un
-written o t exit.WriteFault before after is un = absurd un
-written o t exit.Usage before after is un = absurd is
-written o t exit.ReadFault before after is un = absurd is
-written o t exit.TooLong before after is un = absurd is
-written o t (exit.Scenario line why) before after is un = absurd is
-written o t exit.Absent before after is un = absurd is
-written o t exit.Memory before after is un = absurd is

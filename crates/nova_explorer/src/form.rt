@@ -1,13 +1,10 @@
-// The form of the command line, and what words give to it.
-ghost use Rattle.std.specs.Prelude.{◌≡◌, false, map, IfOk};
+// The form of the command line.
+ghost use Rattle.std.specs.Prelude.{◌≡◌, false, IfOk};
 ghost use Rattle.clap.specs.Simple.{app_of};
-ghost use Rattle.clap.specs.Walk.{rows_of, rule_of};
-ghost use Rattle.clap.specs.Matches.{found_of};
-ghost use Rattle.nova_explorer.specs.Form.{form, named, worded, turns_option, states_option, given, given_in};
-ghost use Rattle.nova_command.specs.CommandFault.{AnswersBy};
+ghost use Rattle.clap.specs.Walk.{rule_of};
+ghost use Rattle.nova_explorer.specs.Form.{form, named, worded, turns_option, states_option};
 
-use clap::{Arg, ArgMatches, Command};
-use nova_command::{CommandFault, parse};
+use clap::{Arg, Command};
 use std::alloc::{AllocError, Global};
 
 /// The limit of turns, which is one million where none is given.
@@ -51,19 +48,8 @@ fn worded<'a>(alloc: Global) -> Result<Command<'a>, AllocError>
 }
 
 /// The scenario, the words of the question, and the limits.
-fn form<'a>(alloc: Global) -> Result<Command<'a>, AllocError>
+pub(crate) fn form<'a>(alloc: Global) -> Result<Command<'a>, AllocError>
     ensures { IfOk result (λ command. app_of command ≡ form) }
 {
     worded(alloc)?.arg(turns(alloc))?.arg(states(alloc))
-}
-
-/// What words give to the form, where the first of them is the program's name.
-#[tactic(auto, unfolding(crate::specs::Form::given))]
-pub(crate) fn matches_of<'a>(
-    alloc: Global,
-    words: &'a [&'a str],
-) -> Result<ArgMatches<'a>, CommandFault>
-    ensures { AnswersBy (λ matches. given_in (rows_of (found_of matches))) (given (map (λ word. word.now) words.now)) result }
-{
-    parse(form(alloc)?, words)
 }

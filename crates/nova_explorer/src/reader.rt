@@ -7,14 +7,14 @@ ghost use Rattle.nova_explorer.specs.Form.{given_in};
 ghost use Rattle.nova_explorer.specs.Numbers.{HasBounds, IsAsked, byte_of, number_of, offset_of, turns_of};
 ghost use Rattle.nova_explorer.specs.Requests.{act_hangs, at_both, at_one, bytes_of, dies_but, end_hangs, location_of, of_four, of_none, of_one, of_three, of_two, of_word, on_bytes, on_console, on_context, question_in, request, request_of, request_with, word_of};
 
-use crate::form::matches_of;
+use crate::form::form;
 use crate::numbers::{read_byte, read_number, read_offset, read_states, read_turns};
 use crate::request::Request;
 use crate::word::Word;
 use clap::ArgMatches;
 use hex::FromHexError;
 use nova_asking::{Aim, Bytes, Location, Question};
-use nova_command::{CommandFault, Name, text_of, with_program_name};
+use nova_command::{CommandFault, Name, parse, text_of, with_program_name};
 use std::alloc::Global;
 
 /// Bytes of the console `console`, as a question.
@@ -326,12 +326,12 @@ fn request_in(alloc: Global, matches: &ArgMatches) -> Result<Request, CommandFau
 
 /// Reads the words after the program's own name as a request: SCENARIO and a question, with the options `--turns N` and `--states N`
 /// anywhere among them.
-#[tactic(auto, unfolding(crate::specs::Requests::request))]
+#[tactic(auto, unfolding(crate::specs::Requests::request, crate::specs::Form::given), using(crate::proofs::Plain::plain))]
 pub(crate) fn read_request(alloc: Global, words: &[String]) -> Result<Request, CommandFault>
     ensures exact { Answers (request (map string_bytes words.now)) result }
     ensures bounds { IfOk result HasBounds }
 {
     let named = with_program_name(alloc, "nova_explore", words)?;
-    let matches = matches_of(alloc, named.as_slice())?;
+    let matches = parse(form(alloc)?, named.as_slice())?;
     request_in(alloc, &matches)
 }

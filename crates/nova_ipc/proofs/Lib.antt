@@ -1,2 +1,4 @@
-pub mod Admits
-pub mod Changes
+pub mod CallAdmits
+pub mod CallChanges
+pub mod ExitAdmits
+pub mod ExitChanges

@@ -1,10 +1,5 @@
-//! Calls and replies between threads: which handler a call reaches, and what it does to both and their message words.
+//! Calls and exits: which handler each reaches, what it does to both and their message words, and the replies.
 #![tactic(auto)]
 
-mod calls;
-pub mod laws;
-mod replies;
-
-pub use calls::{admit, begin, help, send};
-pub use nova_model::Admit;
-pub use replies::{abort, answer, complete};
+pub mod calls;
+pub mod exits;

@@ -94,8 +94,8 @@ fn answer_of(two: bool, verdict: Verdict) -> Answer
     }
 }
 
-/// Joins sides to the finest that respect some ties, or answers the tie for which there are none.
-fn settle_in(labels: &mut [u32], tied: &[Tie]) -> Option<Tie>
+/// Joins sides in `labels` to the finest that respect the ties `tied`, or answers the tie for which there are none: then `labels` tell nothing.
+pub fn settle_in(labels: &mut [u32], tied: &[Tie]) -> Option<Tie>
     ensures { AreSettled tied.now labels.old labels.new result }
 {
     settle(labels, tied)

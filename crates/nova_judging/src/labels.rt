@@ -18,13 +18,10 @@ fn labelled(policy: &Policy, n: u32, object: Object) -> u32
     }
 }
 
-/// The labels that `policy` gives to the objects of `kernel`.
+/// The labels that `policy` gives to the objects of `kernel`, of which there are at most 2^31, by number: 0 to what is no protection domain. The only
+/// error is that memory ran out.
 #[tactic(auto, unfolding(crate::specs::Labelled::labels_of))]
-pub(crate) fn labels_of(
-    alloc: Global,
-    policy: &Policy,
-    kernel: &Kernel,
-) -> Result<Vec<u32>, AllocError>
+pub fn labels_of(alloc: Global, policy: &Policy, kernel: &Kernel) -> Result<Vec<u32>, AllocError>
     requires few { length kernel.now.state.objects ≤ 2 ^ 31 }
     ensures labels { IfOk result (λ labels. labels.items ≡ labels_of policy.now kernel.now.state) }
     ensures few { IfOk result (λ labels. length labels.items ≤ 2 ^ 31) }

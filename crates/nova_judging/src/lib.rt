@@ -13,5 +13,6 @@ mod sides;
 mod strangers;
 mod trails;
 
-pub use answer::{Answer, Told, answer_finest, answer_named};
+pub use answer::{Answer, Told, answer_finest, answer_named, settle_in};
+pub use labels::labels_of;
 pub use strangers::{Expected, Stranger, first_stranger};

@@ -20,9 +20,8 @@ ghost use Rattle.nova_twin.specs.Comparison.{said, ram_of, Holds, EndsSo};
 ghost use Rattle.nova_twin.specs.Sides.{IsAlone, IsFound, IsSide};
 
 use nova_answers::{
-    Exit, Outcome, Subject, Subjects, TwinWhy, fetch_order, fetch_scenario, fetch_subjects,
+    Exit, Outcome, Subject, Subjects, TwinWhy, booted, fetch_order, fetch_scenario, fetch_subjects,
 };
-use nova_boot::boot;
 use nova_command::Name;
 use nova_following::collect;
 use nova_io::Depot;
@@ -49,7 +48,7 @@ fn collected(
     ensures idle { IfErr result (IsIdleFault (boot (scenario_of scenario.now)) order.now) }
 {
     let most = u64::from(limit);
-    let kernel = boot(alloc, scenario, most)?;
+    let kernel = booted(alloc, scenario, limit)?;
     Ok(collect(alloc, kernel, order, most, guest)?)
 }
 

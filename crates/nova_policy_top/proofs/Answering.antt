@@ -12,7 +12,7 @@ use Rattle.nova_order.specs.Blocks.{BlockList}
 use Rattle.nova_scenario.specs.declared.scenario.Scenario.{Scenario as ScenarioText}
 use Rattle.nova_policy_top.specs.Came.{IsOrderFaultIfNamed, IsPolicyFaultIfNamed, IsScenarioFault, OrderCameIfNamed, PolicyCameIfNamed}
 use Rattle.nova_policy_top.specs.Main.{IsAnswer, IsFault, IsPrepared, IsSent, IsToldOf}
-use Rattle.nova_policy_top.specs.Exit.{IsUnwritten, of_scenario}
+use Rattle.nova_policy_top.specs.Exit.{of_scenario}
 use Rattle.nova_io.specs.Outside.{Depots, Sinks}
 use Rattle.nova_policy_top.specs.Runs.{IsDecided}
 use Rattle.nova_policy_top.specs.declared.exit.Exit.{Exit}
@@ -123,17 +123,3 @@ module _ {D O : Type 0} (d : Depots D) (o : Sinks O) (q : Request) (old new : D)
   sent t (exit.Policy line why) told out = absurd out
   sent t (exit.Misnamed line expected number) told out = absurd out
   sent t exit.Memory told out = absurd out
-
--- then something is written
-pub written : {O : Type 0} (o : Sinks O) (t : Told) (e : Exit) (before after : O) → IsSent o t e before after → IsUnwritten e → after ≡ before
-written o t (exit.Told answer) before after is un = absurd un
-written o t exit.WriteFault before after is un = absurd un
-written o t exit.Usage before after is un = absurd is
-written o t exit.ReadFault before after is un = absurd is
-written o t (exit.TooLong i) before after is un = absurd is
-written o t (exit.Scenario line why) before after is un = absurd is
-written o t (exit.Order fault) before after is un = absurd is
-written o t (exit.Idle line) before after is un = absurd is
-written o t (exit.Policy line why) before after is un = absurd is
-written o t (exit.Misnamed line expected number) before after is un = absurd is
-written o t exit.Memory before after is un = absurd is

@@ -1,3 +1,4 @@
+pub mod Plain
 pub mod FirstTurns
 pub mod Ran
 pub mod Flowing

@@ -1,44 +1,21 @@
 // Lines that tell of each side whether the premises of noninterference on divided processors hold, and until when it is at work, and neither gives nor revokes.
-ghost use Rattle.std.specs.Prelude.{◌≡◌, ◌≤◌, ◌<◌, ◌^◌, [], IfOk, length, string_bytes};
-ghost use Rattle.nova_judging.specs.Answers.{AreSettled, ties_beside};
-ghost use Rattle.nova_judging.specs.Labelled.{labelled, labels_of};
+ghost use Rattle.std.specs.Prelude.{◌≡◌, ◌≤◌, ◌^◌, [], IfOk, length, string_bytes};
+ghost use Rattle.nova_judging.specs.Answers.{ties_beside};
+ghost use Rattle.nova_judging.specs.Labelled.{labels_of};
 ghost use Rattle.nova_flowing.specs.Lines.{flow_lines};
 ghost use Rattle.nova_watching.specs.Watched.{trusted_root};
 ghost use Rattle.nova_policy_top.specs.Flows.{AreFinestFlows, AreFlows};
 
 use nova_flowing::{Lapse, write_flows};
-use nova_kernel::{Kernel, Object};
+use nova_judging::{labels_of, settle_in};
+use nova_kernel::Kernel;
 use nova_naming::Policy;
 use nova_sides::{derivations_of, ties};
-use nova_ties::{Tie, settle};
+use nova_ties::Tie;
 use std::alloc::{AllocError, Global};
 
 /// The most objects of a state that is judged.
 const MOST: usize = 1 << 31;
-
-/// The label of `object`.
-fn labelled(policy: &Policy, n: u32, object: Object) -> u32
-    requires { n < 2 ^ 31 }
-    ensures { result ≡ labelled policy.now (n, object) }
-{
-    match object {
-        Object::Pd => policy.label_of(n),
-        _ => 0,
-    }
-}
-
-/// The labels that `policy` gives to the objects of `kernel`.
-#[tactic(auto, unfolding(nova_judging::specs::Labelled::labels_of))]
-fn labels_of(alloc: Global, policy: &Policy, kernel: &Kernel) -> Result<Vec<u32>, AllocError>
-    requires few { length kernel.now.state.objects ≤ 2 ^ 31 }
-    ensures { IfOk result (λ labels. labels.items ≡ labels_of policy.now kernel.now.state) }
-{
-    let mut labels = Vec::new(alloc);
-    for (i, object) in kernel.objects().iter().enumerate() {
-        labels.push(labelled(policy, i as u32, *object))?;
-    }
-    Ok(labels)
-}
 
 /// The lines of the sides of some labels.
 fn flows_by(
@@ -71,13 +48,6 @@ fn flows_named(
 {
     let labels = labels_of(alloc, policy, kernel)?;
     flows_by(alloc, policy, kernel, lapses, &labels)
-}
-
-/// Joins sides to the finest that respect some ties, or answers the tie for which there are none.
-fn settle_in(labels: &mut [u32], tied: &[Tie]) -> Option<Tie>
-    ensures { AreSettled tied.now labels.old labels.new result }
-{
-    settle(labels, tied)
 }
 
 /// The lines of the finest sides to which those of `policy` can be joined, or none.

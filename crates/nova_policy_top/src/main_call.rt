@@ -33,7 +33,8 @@ fn prepare<D: Depot>(alloc: Global, request: &Request, depot: &mut D) -> Result<
 
 /// Writes `told` to `out`.
 fn send<O: Sink>(out: &mut O, told: &Told) -> Exit
-    ensures { IsSent (sinks O.written O.took O.write_failed O.faults) told.now result out.old out.new }
+    ensures sent { IsSent (sinks O.written O.took O.write_failed O.faults) told.now result out.old out.new }
+    ensures unwritten { IsUnwritten result → out.new ≡ out.old }
 {
     match write_all(out, told.text.as_bytes()) {
         Ok(()) => Exit::Told(told.answer),

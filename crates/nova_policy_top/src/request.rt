@@ -6,9 +6,9 @@ ghost use Rattle.nova_command.specs.CommandFault.{Answers};
 ghost use Rattle.nova_policy_top.specs.Form.{given_in};
 ghost use Rattle.nova_policy_top.specs.Words.{asked, asked_of, between, flowed, flowed_on, span_of, spanned, turn_of, turn_or};
 
-use crate::form::matches_of;
+use crate::form::form;
 use clap::ArgMatches;
-use nova_command::{CommandFault, Name, number_within, text_of, with_program_name};
+use nova_command::{CommandFault, Name, number_within, parse, text_of, with_program_name};
 use std::alloc::{AllocError, Global};
 
 /// Turns of a run: the last, and the first whose state is asked for, from 0 to 10,000,000 and not after it.
@@ -212,12 +212,12 @@ fn request_of(alloc: Global, matches: &ArgMatches) -> Result<Request, CommandFau
 /// TURN is decimal digits, or `0x` and hexadecimal digits, of a number from 0 to 10,000,000. Without `--until` the one turn is that of `--at`, or
 /// 1,000,000; with it the first turn is that of `--at`, or 0, and not after the last. `--flow` stands in place of `--at`, and without `--until` the last
 /// turn is 1,000,000, or the first, where that is later. `Usage` comes exactly where the words are no request, and asking for help or for the version is none. `Memory` says nothing of the words.
-#[tactic(auto, unfolding(crate::specs::Words::asked))]
+#[tactic(auto, unfolding(crate::specs::Words::asked, crate::specs::Form::given), using(crate::proofs::Plain::plain))]
 pub fn read_request(alloc: Global, words: &[String]) -> Result<Request, CommandFault>
     ensures exact { Answers (asked (map string_bytes words.now)) result }
     ensures last { IfOk result (λ request. request.span.until ≤ 10000000) }
 {
     let named = with_program_name(alloc, "nova_policy", words)?;
-    let matches = matches_of(alloc, named.as_slice())?;
+    let matches = parse(form(alloc)?, named.as_slice())?;
     request_of(alloc, &matches)
 }

@@ -4,8 +4,9 @@ ghost use Rattle.nova_model.specs.Edges.{edge_of};
 ghost use Rattle.nova_objects.specs.declared.object.Object.TheVariants.{Pd};
 ghost use Rattle.nova_model.specs.State.{KernelState, context_at};
 ghost use Rattle.nova_ties.specs.Ties.{label_in};
+ghost use Rattle.law_turns.specs.Giving.{gives_no_first};
 ghost use Rattle.law_sides.specs.Resting.{is_resting};
-ghost use Rattle.law_sides.specs.Roles.{AreHarmless, controls_alone, gives_no_first, is_at_rest, is_bare, is_bare_by, is_bare_in, is_controlled, is_domain, is_held, is_if_there, is_mute, is_mute_by, is_mute_in, is_no_grant, is_none_or, is_other, is_powerless, is_reached_by, is_side, is_uncalled, rests_by, rests_in, target_domain, waits_for_none, waits_within, waits_without};
+ghost use Rattle.law_sides.specs.Roles.{AreHarmless, controls_alone, is_at_rest, is_bare, is_bare_by, is_bare_in, is_controlled, is_domain, is_held, is_if_there, is_mute, is_mute_by, is_mute_in, is_no_grant, is_none_or, is_other, is_powerless, is_reached_by, is_side, is_uncalled, rests_by, rests_in, target_domain, waits_for_none, waits_within, waits_without};
 ghost use Rattle.nova_sides.specs.Works.{role_of};
 
 use crate::common::{domain_of, is_object};

@@ -2,8 +2,8 @@ ghost use Rattle.std.specs.Prelude.{◌≡◌, None, IsTrue, false};
 ghost use Rattle.nova_utcb.specs.Messages.{has_counts};
 
 use nova_ec::{EcState, Ecs, Mark, State};
-use nova_ipc::laws::the_flag_says_not_to_wait;
-use nova_ipc::{abort, admit, answer, complete, help, send};
+use nova_ipc::calls::laws::the_flag_says_not_to_wait;
+use nova_ipc::calls::{abort, admit, answer, complete, help, send};
 use nova_model::Admit;
 use nova_utcb::Utcb;
 use rv_model::Regs;

@@ -1,7 +1,7 @@
 ghost use Rattle.std.specs.Prelude.{◌≡◌, None, false};
 
 use nova_ec::{EcState, Ecs, Mark, State};
-use nova_exit::{ExitAdmit, admit, die, raise, send, wait, write_back};
+use nova_ipc::exits::{ExitAdmit, admit, die, raise, send, wait, write_back};
 use nova_range::{Flags, Mtd};
 use nova_utcb::Utcb;
 use rv_model::Regs;

@@ -11,8 +11,7 @@ ghost use Rattle.nova_scenario.specs.Sound.{IsSound};
 ghost use Rattle.nova_answers.specs.Prepared.{IsReportOf, IsTogether, IsIdleFault, IsAlone};
 ghost use Rattle.nova_answers.specs.declared.exit.Exit.TheVariants.{Memory};
 
-use nova_answers::{Exit, Outcome, closed, recorded};
-use nova_boot::boot;
+use nova_answers::{Exit, Outcome, booted, closed, recorded};
 use nova_finished::Finished;
 use nova_order::Order;
 use nova_rounds::{round_robin, run_order};
@@ -33,7 +32,7 @@ pub fn run_rounds(alloc: Global, scenario: &Scenario, limit: u32) -> Result<Outc
 {
     law_turns::round_robin_runs_out();
     let most = u64::from(limit);
-    let kernel = boot(alloc, scenario, most)?;
+    let kernel = booted(alloc, scenario, limit)?;
     let finished = round_robin(alloc, kernel, most)?;
     Ok(closed(alloc, finished, Vec::new(alloc))?)
 }
@@ -53,7 +52,7 @@ pub fn run_in_order(
     ensures idle { IfErr result (IsIdleFault (boot (scenario_of scenario.now)) order.now) }
 {
     let most = u64::from(limit);
-    let kernel = boot(alloc, scenario, most)?;
+    let kernel = booted(alloc, scenario, limit)?;
     let finished = run_order(alloc, kernel, order, most)?;
     Ok(closed(alloc, finished, Vec::new(alloc))?)
 }
@@ -73,7 +72,7 @@ fn work<R: Threads + Wait + Sync, G: Gate + Sync>(
     ensures memory { IfErr result (λ exit. exit ≡ Memory) }
 {
     let most = u64::from(limit);
-    let kernel = boot(alloc, scenario, most)?;
+    let kernel = booted(alloc, scenario, limit)?;
     Ok(run_workers(rt, alloc, kernel, most, gate)?)
 }
 

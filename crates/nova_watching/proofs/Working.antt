@@ -38,7 +38,9 @@ use Rattle.nova_model.specs.declared.times.Due.{Due}
 use Rattle.law_forest.proofs.Walk.{IfDone, hypercall_holds}
 use Rattle.law_turns.specs.Asked.{IsCalling}
 use Rattle.law_integrity.specs.Rights.{Again, AtCall, IsAsking}
-use Rattle.law_flow.specs.Flow.{IsCallAtWork, is_at_work, is_revoking}
+use Rattle.law_turns.specs.Giving.{gives_no_first}
+use Rattle.law_turns.specs.Revoking.{is_revoking}
+use Rattle.law_flow.specs.Flow.{IsCallAtWork}
 use Rattle.nova_flowing.specs.Working.{IsWorking, kind_in, kind_of}
 use Rattle.nova_flowing.specs.declared.lapse.Lapse.{Lapse}
 use Rattle.nova_flowing.specs.declared.lapse.LapseKind.{LapseKind}
@@ -85,7 +87,7 @@ call_answers k ec domain r kind h = hypercall_holds Answers k ec domain r (λ ca
 
 -- AT WORK, BY KINDS
 
-state_works : (s : State) → kind_in s ≡ None → is_at_work s ≡ true
+state_works : (s : State) → kind_in s ≡ None → gives_no_first s ≡ true
 state_works (Granting new) is = absurd (cc)
 state_works Replying is = absurd (cc)
 state_works other is = refl
@@ -228,7 +230,7 @@ module _ (k : KernelState) (cpu n : ℕ) where
   -- a number without an execution context does nothing
   nobody_works : (ec : ℕ) → context_at k ec ≡ None → IsWorking k ec
   nobody_works ec none = record {
-    state = ap (λ (o : Option EcState). is_at_work (context_in o).state) none;
+    state = ap (λ (o : Option EcState). gives_no_first (context_in o).state) none;
     calls = λ asking. absurd (by_asking asking);
     gives = λ gives. absurd (let both = sym (ap (λ (o : Option EcState). is_giving (context_in o).state) none) ∙ gives in cc);
     revokes = λ revokes. absurd (let both = sym (ap (λ (o : Option EcState). is_revoking (context_in o).state) none) ∙ revokes in cc);

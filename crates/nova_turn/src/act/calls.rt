@@ -9,8 +9,8 @@ ghost use Rattle.nova_turn.specs.Going.{KeepsRest};
 ghost use Rattle.nova_turn.specs.Parts.{state_of};
 
 use crate::parts::Parts;
-use nova_exit::write_back;
-use nova_ipc::{begin, complete};
+use nova_ipc::calls::{begin, complete};
+use nova_ipc::exits::write_back;
 use nova_model::{Admit, Deed, Mark, Sequel, State};
 use nova_utcb::Utcb;
 

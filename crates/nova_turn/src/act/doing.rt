@@ -11,8 +11,8 @@ ghost use Rattle.nova_turn.specs.Revoking.{BeginsWithin, revokes_after};
 
 use crate::parts::Parts;
 use nova_deeds::changes::change;
-use nova_exit::wait;
-use nova_ipc::help;
+use nova_ipc::calls::help;
+use nova_ipc::exits::wait;
 use nova_model::{Deed, NewObject};
 use nova_revoke::Revoke;
 

@@ -10,8 +10,8 @@ ghost use Rattle.nova_turn.specs.Parts.{state_of};
 
 use crate::parts::Parts;
 use nova_ec::Mark;
-use nova_exit::{die, send};
-use nova_ipc::abort;
+use nova_ipc::calls::abort;
+use nova_ipc::exits::{die, send};
 use nova_model::Deed;
 use nova_range::Mtd;
 

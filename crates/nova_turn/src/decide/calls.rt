@@ -7,7 +7,7 @@ ghost use Rattle.nova_turn.specs.Parts.{state_of};
 use crate::decide::capabilities::ObjectType;
 use crate::parts::Parts;
 use nova_calls::numbers;
-use nova_ipc::admit;
+use nova_ipc::calls::admit;
 use nova_model::{Admit, Deed, Mark, Rights};
 use nova_range::Status;
 

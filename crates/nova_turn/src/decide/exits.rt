@@ -9,7 +9,7 @@ use crate::decide::capabilities::ObjectType;
 use crate::decide::deciding::Raised;
 use crate::parts::Parts;
 use nova_ec::Mark;
-use nova_exit::admit;
+use nova_ipc::exits::admit;
 use nova_model::{Deed, ExitAdmit, Object, Rights};
 use nova_range::Status;
 

@@ -1,40 +1,24 @@
-use Rattle.std.proofs.Common.{◌≡◌, ℕ, Result, Err, IfErr, ap, sym, subst, ◌∙◌, IsTrue, arith, rules}
+use Rattle.std.proofs.Common.{◌≡◌, Result, Err, IfErr, ap, sym, subst, rules}
 use Rattle.std.proofs.lemmas.Result.{err_from_is_err_and}
 use Rattle.std.specs.Prelude.{Option}
 use Rattle.nova_kernel.specs.Views.{KernelView}
 use Rattle.nova_model.specs.Boot.{boot}
 use Rattle.nova_boot.specs.Boot.{scenario_of}
-use Rattle.nova_order.specs.Blocks.{is_within}
 use Rattle.nova_twin.specs.Sides.{IsBeginning}
 use Rattle.nova_twin.specs.declared.side.Side.{Side}
 use Rattle.nova_answers.specs.Prepared.{IsIdleFault}
 use Rattle.nova_answers.specs.declared.exit.Exit.{Exit}
-use Rattle.nova_answers.proofs.Reports.{boot_turns, boot_cpus}
 use Rattle.nova_pair.proofs.Twins.{begins_at, idle_from}
 use Rattle.nova_pair.proofs.guests.collected.Goals as goal
 
 pub collect-requires-clause-begins : goal.collect-requires-clause-begins
 collect-requires-clause-begins c =
-    let begun : c.in_ok-kernel.kernel.state ≡ boot (scenario_of c.args.scenario.now) = ap (λ (k : KernelView). k.state) c.in_ok-kernel.ensures in
+    let begun : c.in_ok-kernel.kernel.state ≡ boot (scenario_of c.args.scenario.now) = ap (λ (k : KernelView). k.state) c.in_ok-kernel.ensures.kernel in
     subst IsBeginning (sym begun) (begins_at c.args.scenario.now c.requires.sound)
-
-pub collect-requires-clause-turns : goal.collect-requires-clause-turns
-collect-requires-clause-turns c =
-    let none : c.in_ok-kernel.kernel.state.turns ≡ 0 = ap (λ (k : KernelView). k.state.turns) c.in_ok-kernel.ensures ∙ boot_turns (scenario_of c.args.scenario.now) in
-    let same : c.from-most.result ≡ c.args.limit = search rules in
-    let most = c.requires.limit.1 in
-    omega arith
-
-pub collect-requires-clause-within : goal.collect-requires-clause-within
-collect-requires-clause-within c =
-    let there : c.in_ok-kernel.kernel.state.cpus ≡ c.args.scenario.now.cpus = ap (λ (k : KernelView). k.state.cpus) c.in_ok-kernel.ensures ∙ boot_cpus (scenario_of c.args.scenario.now) in
-    let same : c.from-most.result ≡ c.args.limit = search rules in
-    subst (λ (n : ℕ). IsTrue (is_within n c.from-most.result c.args.order.now.blocks)) (sym there)
-    (subst (λ (n : ℕ). IsTrue (is_within c.args.scenario.now.cpus n c.args.order.now.blocks)) (sym same) c.requires.within)
 
 pub returns-in_err-collect-clause-idle : goal.returns-in_err-collect-clause-idle
 returns-in_err-collect-clause-idle c =
-    let begun : c.in_ok-kernel.kernel.state ≡ boot (scenario_of c.args.scenario.now) = ap (λ (k : KernelView). k.state) c.in_ok-kernel.ensures in
+    let begun : c.in_ok-kernel.kernel.state ≡ boot (scenario_of c.args.scenario.now) = ap (λ (k : KernelView). k.state) c.in_ok-kernel.ensures.kernel in
     let is : c.collect.result ≡ Err c.in_err-collect.field-0.0 = search rules in
     let p = err_from_is_err_and c.from_residual-in_err-collect.result c.from_residual-in_err-collect.ensures.1 in
     subst (λ (r : Result (Option Side) Exit). IfErr r (IsIdleFault (boot (scenario_of c.args.scenario.now)) c.args.order.now)) (sym p.1)

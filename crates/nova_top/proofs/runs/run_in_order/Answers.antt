@@ -1,33 +1,18 @@
-use Rattle.std.proofs.Common.{◌≡◌, ℕ, ap, sym, subst, ◌∙◌, IfErr, IsTrue, Result, arith, rules}
+use Rattle.std.proofs.Common.{◌≡◌, ap, sym, subst, IfErr, Result, rules}
 use Rattle.std.proofs.lemmas.Result.{err_from_is_err_and}
 use Rattle.nova_kernel.specs.Views.{KernelView}
 use Rattle.nova_model.specs.Boot.{boot}
 use Rattle.nova_model.specs.State.{KernelState}
 use Rattle.nova_boot.specs.Boot.{scenario_of}
-use Rattle.nova_order.specs.Blocks.{is_within}
 use Rattle.nova_answers.specs.Prepared.{IsIdleFault}
 use Rattle.nova_answers.specs.declared.exit.Exit.{Exit}
 use Rattle.nova_answers.specs.declared.outcome.Outcome.{Outcome}
-use Rattle.nova_answers.proofs.Reports.{boot_turns, boot_cpus, reported_from}
+use Rattle.nova_answers.proofs.Reports.{reported_from}
 use Rattle.nova_top.proofs.runs.run_in_order.Goals as goal
-
-pub run_order-requires-clause-turns : goal.run_order-requires-clause-turns
-run_order-requires-clause-turns c =
-    let none : c.in_ok-kernel.kernel.state.turns ≡ 0 = ap (λ (k : KernelView). k.state.turns) c.in_ok-kernel.ensures ∙ boot_turns (scenario_of c.args.scenario.now) in
-    let same : c.from-most.result ≡ c.args.limit = search rules in
-    let most = c.requires.limit.1 in
-    omega arith
-
-pub run_order-requires-clause-within : goal.run_order-requires-clause-within
-run_order-requires-clause-within c =
-    let there : c.in_ok-kernel.kernel.state.cpus ≡ c.args.scenario.now.cpus = ap (λ (k : KernelView). k.state.cpus) c.in_ok-kernel.ensures ∙ boot_cpus (scenario_of c.args.scenario.now) in
-    let same : c.from-most.result ≡ c.args.limit = search rules in
-    subst (λ (n : ℕ). IsTrue (is_within n c.from-most.result c.args.order.now.blocks)) (sym there)
-    (subst (λ (n : ℕ). IsTrue (is_within c.args.scenario.now.cpus n c.args.order.now.blocks)) (sym same) c.requires.within)
 
 pub returns-clause-report : goal.returns-clause-report
 returns-clause-report c =
-    let begun : c.in_ok-kernel.kernel.state ≡ boot (scenario_of c.args.scenario.now) = ap (λ (k : KernelView). k.state) c.in_ok-kernel.ensures in
+    let begun : c.in_ok-kernel.kernel.state ≡ boot (scenario_of c.args.scenario.now) = ap (λ (k : KernelView). k.state) c.in_ok-kernel.ensures.kernel in
     let same : c.from-most.result ≡ c.args.limit = search rules in
     reported_from (scenario_of c.args.scenario.now) c.args.limit c.from-most.result c.in_ok-kernel.kernel.state c.args.order.now.blocks c.in_ok-finished.finished c.in_ok-closed.field-0
     begun same c.in_ok-finished.ensures.finished c.in_ok-closed.ensures.text c.in_ok-closed.ensures.quiet c.in_ok-finished.ensures.no_idle c.requires.within
