@@ -8,7 +8,8 @@ use Rattle.nova_model.specs.Choice.{Candidate, actor, candidate_of, candidate_wi
 use Rattle.nova_model.specs.Edges.{acts}
 use Rattle.nova_model.specs.State.{KernelState, budget_at, entry}
 use Rattle.nova_model.specs.declared.budget.Budget.{Budget}
-use Rattle.law_alike.specs.Alike.{IsAlike, ArePeers, stamp_in, uncounted}
+use Rattle.law_turns.specs.Budgets.{stamp_in}
+use Rattle.law_alike.specs.Alike.{IsAlike, ArePeers, uncounted}
 use Rattle.law_alike.proofs.Lists.{Both, InStep, first_step, map_entry}
 
 -- what is chosen is read off the state without counts, and of budgets

@@ -38,6 +38,7 @@ use Rattle.nova_model.specs.declared.transfer.Job.{Job}
 use Rattle.nova_model.specs.declared.transfer.Skip.{Skip}
 use Rattle.nova_model.specs.declared.transfer.Transfer.{Transfer}
 use Rattle.law_alike.specs.Alike.{uncounted}
+use Rattle.law_turns.proofs.Hypercalls.{next_same}
 
 -- a state with the counts of another
 abbrev pub counting : KernelState → KernelState → KernelState
@@ -59,10 +60,6 @@ blank (deeds.Blocks sm (Some d)) = deeds.Blocks sm (Some (record d { at = 0 }))
 blank other = other
 
 -- HYPERCALLS
-
-next_by : {A B : Type 0} (o : Result A Status) (f g : A → Result B Status) → ((x : A) → f x ≡ g x) → and_then o f ≡ and_then o g
-next_by (Err status) f g same = refl
-next_by (Ok x) f g same = same x
 
 called_same : (k l : KernelState) (ec pt : ℕ) (a : Admit) → called k ec pt a ≡ called (counting k l) ec pt a
 called_same k l ec pt (Refused status) = refl
@@ -100,7 +97,7 @@ late_same k l ec number ticks (Ok n) = by_answer (answer_of (semaphore k.semapho
 
 row_same : (k l : KernelState) (ec domain number : ℕ) (c : Call) → blank_of number (row k ec domain c) ≡ blank_of number (row (counting k l) ec domain c)
 row_same k l ec domain number (asks.Call portal flag) =
-    ap (λ (r : Result Deed Status). blank_of number (unless (not (has_counts (message k ec))) BadPar r)) (next_by (named k domain is_pt call_right portal)
+    ap (λ (r : Result Deed Status). blank_of number (unless (not (has_counts (message k ec))) BadPar r)) (next_same (named k domain is_pt call_right portal)
     (λ pt. called k ec pt (admitted k.contexts ec (handler_of k pt) flag)) (λ pt. called (counting k l) ec pt (admitted k.contexts ec (handler_of k pt) flag))
     (λ pt. called_same k l ec pt (admitted k.contexts ec (handler_of k pt) flag)))
 row_same k l ec domain number asks.Reply =

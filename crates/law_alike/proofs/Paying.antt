@@ -1,7 +1,6 @@
 -- What is left of quanta, and the order of stamps, where an object is made and where a scheduling context is charged.
-use Rattle.std.proofs.Common.{◌≡◌, ℕ, zero, suc, ◌-◌, ◌<◌, ◌==◌, List, [], ◌∷◌, ◌++◌, length, map, refl, sym, ap, ap₂, ◌∙◌, subst, inl, inr, arith}
-use Rattle.std.specs.Prelude.{◌⊎◌, ◌≢◌, Bool, true, false, nat_lt, slice_get, slice_set, option_map, Option, Some, None, IsSome, if◌then◌else◌}
-use Rattle.std.proofs.lemmas.Bool.Decides.{nat_tests}
+use Rattle.std.proofs.Common.{◌≡◌, ℕ, zero, suc, ◌<◌, List, [], ◌∷◌, ◌++◌, length, map, refl, sym, ap, ap₂, ◌∙◌, subst, inl, inr, arith}
+use Rattle.std.specs.Prelude.{◌⊎◌, ◌≢◌, Bool, true, false, nat_lt, slice_get, slice_set, option_map, Option, Some, None, IsSome}
 use Rattle.std.proofs.lemmas.List.{length-map}
 use Rattle.nova_objects.specs.declared.object.Object.{Object}
 use Rattle.nova_objects.specs.declared.object.Object.TheVariants.{Sc}
@@ -13,17 +12,16 @@ use Rattle.nova_model.specs.declared.new_object.NewObject.{NewObject}
 use Rattle.nova_model.specs.declared.new_object.NewObject.TheVariants as new
 use Rattle.law_forest.specs.Effects.{joined, stamp_with}
 use Rattle.law_forest.specs.Turns.{budgets_paid, stamp_paid}
+use Rattle.law_turns.specs.Budgets.{left_in, next_left, stamp_in}
+use Rattle.law_turns.proofs.Budgets.{left_after, less_false, less_true, not_less}
 use Rattle.law_turns.proofs.Links.{place}
 use Rattle.law_turns.proofs.Setting.{entry_itself, entry_other, get_last, joined_other}
-use Rattle.law_alike.specs.Alike.{ArePeers, stamp_in}
+use Rattle.law_alike.specs.Alike.{ArePeers}
 use Rattle.law_alike.proofs.Choosing.{AreOrdered}
 use Rattle.law_alike.proofs.Lists.{map_entry, map_joined, map_put}
 
 abbrev Budgets : Type 0
 Budgets = List (Option Budget)
-
-abbrev left_in : Option Budget → Option ℕ
-left_in o = option_map (λ (b : Budget). b.left) o
 
 abbrev stamp_of : Budgets → ℕ → ℕ
 stamp_of bs n = stamp_in (entry (slice_get bs n))
@@ -37,16 +35,6 @@ first_left other = None
 first_left_is : (next : ℕ) (made : NewObject) → left_in (budget_of next made) ≡ first_left made
 first_left_is next (new.Sc ec cpu priority quantum) = refl
 first_left_is next other = refl
-
-abbrev next_left : ℕ → ℕ → ℕ
-next_left quantum left = if left - 1 == 0 then quantum else left - 1
-
-left_after : (quantum next : ℕ) (b : Budget) → (budget_after (is_spent b) quantum next b).left ≡ next_left quantum b.left
-left_after quantum next b = by_test (b.left - 1 == 0)
-  where
-    by_test : (t : Bool) → (budget_after t quantum next b).left ≡ (if t then quantum else b.left - 1)
-    by_test true = refl
-    by_test false = refl
 
 abbrev lefts_paid : List (Option ℕ) → ℕ → ℕ → Option ℕ → List (Option ℕ)
 lefts_paid ls sc quantum None = ls
@@ -78,15 +66,6 @@ lefts_turned os bs next further sc made =
     grown = joined bs (option_map (budget_of next) made)
 
 -- STAMPS
-
-not_less : (n : ℕ) → nat_lt n n ≡ false
-not_less n = grind (arith, nat_tests)
-
-less_true : (m n : ℕ) → m < n → nat_lt m n ≡ true
-less_true m n h = grind (arith, nat_tests, h)
-
-less_false : (m n : ℕ) → m < n → nat_lt n m ≡ false
-less_false m n h = grind (arith, nat_tests, h)
 
 -- stamps below the next, but for one number that has the next
 abbrev IsFresh : (ℕ → ℕ) → (ℕ → ℕ) → ℕ → ℕ → Type 0

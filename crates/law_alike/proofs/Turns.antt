@@ -25,7 +25,8 @@ use Rattle.law_forest.specs.Turns.{Acts, Idles, Passes, Takes, acting, budgets_p
 use Rattle.law_forest.proofs.Turning.{acts_next, chosen_turn, comes, due_answers, due_turn, event_answered, event_in, idle_none, none_taken, passing_none, tick_answers, tick_turn}
 use Rattle.law_turns.specs.Keeping.{IsKept}
 use Rattle.law_turns.proofs.Donation.{keeps, reached_kept}
-use Rattle.law_alike.specs.Alike.{IsAlike, ArePeers, AreStampsGiven, AreTimesAlike, TellNoTicks, TellsNoTicks, lefts, stamp_in, tells_ticks, uncounted}
+use Rattle.law_alike.specs.Alike.{IsAlike, ArePeers, AreStampsGiven, AreTimesAlike, TellNoTicks, TellsNoTicks, lefts, tells_ticks, uncounted}
+use Rattle.law_turns.specs.Budgets.{stamp_in}
 use Rattle.law_alike.proofs.Choosing.{AreSameBut, choice_paired}
 use Rattle.law_alike.proofs.Doing.{AreDeedsAlike, applied_alike, deeds_alike, made_alike, rests_alike, sets_alike, signs_alike}
 use Rattle.law_alike.proofs.Given.{given_after, reached_given}

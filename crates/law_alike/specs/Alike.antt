@@ -1,5 +1,5 @@
 -- When two states are alike: but for what only counts turns they are the same, scheduling contexts that compete are in the same order, and moments are as far from clocks.
-use Rattle.std.specs.Prelude.{◌≡◌, ◌<◌, ℕ, ◌+◌, ◌==◌, Bool, true, false, List, [], ◌∷◌, map, nat_lt, slice_get, Option, Some, None, IfSome, option_map}
+use Rattle.std.specs.Prelude.{◌≡◌, ◌<◌, ℕ, ◌+◌, ◌==◌, Bool, true, false, List, [], ◌∷◌, map, nat_lt, slice_get, Option, Some, None, IfSome}
 use Rattle.nova_calls.specs.declared.numbers.TheConstants.{SC_CTRL}
 use Rattle.nova_objects.specs.declared.object.Object.{Object}
 use Rattle.nova_objects.specs.declared.object.Object.TheVariants.{Sc}
@@ -9,11 +9,11 @@ use Rattle.nova_model.specs.Numbers.{CpuId, EcId, ScId}
 use Rattle.nova_model.specs.Runs.{after}
 use Rattle.nova_model.specs.State.{KernelState, budget_at, deadline_of}
 use Rattle.nova_model.specs.Times.{Times, clock, goes_on}
-use Rattle.nova_model.specs.declared.budget.Budget.{Budget}
 use Rattle.nova_model.specs.declared.deed.Deed.{Deed}
 use Rattle.nova_model.specs.declared.deed.Deed.TheVariants.{Tells}
 use Rattle.nova_model.specs.declared.times.AlarmState.{AlarmState}
 use Rattle.nova_model.specs.declared.times.Deadline.{Deadline}
+use Rattle.law_turns.specs.Budgets.{left_in, stamp_in}
 
 -- the state without counts of turns, stir counts, times, the next stamp, and what is left, stamped and ticked of scheduling contexts
 abbrev pub uncounted : KernelState → KernelState
@@ -27,13 +27,9 @@ uncounted k = record k {
 
 -- by number of a scheduling context the turns that are left of its quantum
 abbrev pub lefts : KernelState → List (Option ℕ)
-lefts k = map (option_map (λ (b : Budget). b.left)) k.budgets
+lefts k = map left_in k.budgets
 
 -- the stamp of a scheduling context, 0 where there is none
-abbrev pub stamp_in : Option Budget → ℕ
-stamp_in (Some b) = b.stamp
-stamp_in None = 0
-
 abbrev pub stamp : KernelState → ScId → ℕ
 stamp k sc = stamp_in (budget_at k sc)
 

@@ -21,7 +21,8 @@ use Rattle.law_isolation.specs.Sound.{IsSound}
 use Rattle.law_integrity.proofs.Edges.{at_index}
 use Rattle.law_integrity.proofs.Runnable.{one_end}
 use Rattle.law_flow.specs.Flow.{IsSide}
-use Rattle.law_flow.specs.Processors.{AreTimed, IsAtHome, is_still, stamp_at, stamp_in}
+use Rattle.law_turns.specs.Budgets.{stamp_in}
+use Rattle.law_flow.specs.Processors.{AreTimed, IsAtHome, is_still, stamp_at}
 use Rattle.law_flow.proofs.Seeing.{Both, edge_same, state_same, ways_same}
 use Rattle.law_flow.proofs.Timing.{listed, listed_same}
 

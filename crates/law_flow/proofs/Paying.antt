@@ -2,7 +2,6 @@
 use Rattle.std.proofs.Common.{◌≡◌, ℕ, ◌+◌, ◌-◌, ◌<◌, ◌==◌, List, refl, sym, ap, ap₂, ◌∙◌, subst, inl, inr, arith}
 use Rattle.std.specs.Prelude.{Bool, true, false, ◌≢◌, nat_lt, IfSome, IsSome, slice_get, slice_set, option_map, Option, Some, None, if◌then◌else◌}
 use Rattle.std.proofs.lemmas.Bool.{eqb-true}
-use Rattle.std.proofs.lemmas.Bool.Decides.{nat_tests}
 use Rattle.std.proofs.lemmas.Option.{same_Some}
 use Rattle.nova_objects.specs.declared.object.Object.{Object}
 use Rattle.nova_model.specs.Creation.{budget_of, object_of}
@@ -14,9 +13,11 @@ use Rattle.nova_model.specs.declared.deed.Deed.{Deed}
 use Rattle.nova_model.specs.declared.new_object.NewObject.{NewObject}
 use Rattle.law_forest.specs.Effects.{joined, made_by, stamp_with}
 use Rattle.law_forest.specs.Turns.{budgets_paid, turned}
+use Rattle.law_turns.specs.Budgets.{left_in, next_left, stamp_in}
+use Rattle.law_turns.proofs.Budgets.{left_after, less_false, less_true, not_less}
 use Rattle.law_turns.proofs.Links.{place}
 use Rattle.law_turns.proofs.Setting.{entry_itself, entry_other}
-use Rattle.law_flow.specs.Processors.{AreTimed, left_at, stamp_at, stamp_in}
+use Rattle.law_flow.specs.Processors.{AreTimed, left_at, stamp_at}
 use Rattle.law_flow.proofs.Doing.{by_deed}
 use Rattle.law_flow.proofs.Tables.{set_same, unjoined}
 use Rattle.law_flow.proofs.Timing.{clock_same}
@@ -46,21 +47,7 @@ paid_others bs sc quantum stamp n other = by_entry (entry (slice_get bs sc))
     by_entry None = refl
     by_entry (Some b) = entry_other bs sc n (budget_after (is_spent b) quantum stamp b) other
 
-abbrev left_in : Option Budget → Option ℕ
-left_in o = option_map (λ (b : Budget). b.left) o
-
 -- WHAT IS LEFT
-
-next_left : ℕ → ℕ → ℕ
-next_left quantum left = if left - 1 == 0 then quantum else left - 1
-
-left_after : (quantum stamp : ℕ) (b : Budget) → (budget_after (is_spent b) quantum stamp b).left ≡ next_left quantum b.left
-unfolding next_left
-left_after quantum stamp b = by_test (b.left - 1 == 0)
-  where
-    by_test : (t : Bool) → (budget_after t quantum stamp b).left ≡ (if t then quantum else b.left - 1)
-    by_test true = refl
-    by_test false = refl
 
 paid_left : (bs cs : List (Option Budget)) (sc quantum stamp other n : ℕ) → left_in (budget_in cs sc) ≡ left_in (budget_in bs sc) → left_in (budget_in cs n) ≡ left_in (budget_in bs n) →
     left_in (budget_in (paid_in cs sc quantum other) n) ≡ left_in (budget_in (paid_in bs sc quantum stamp) n)
@@ -89,15 +76,6 @@ stamp_after_one quantum stamp b = by_test (b.left - 1 == 0)
     by_test : (t : Bool) → (budget_after t quantum stamp b).stamp ≡ (if t then stamp else b.stamp)
     by_test true = refl
     by_test false = refl
-
-not_less : (n : ℕ) → nat_lt n n ≡ false
-not_less n = grind (arith, nat_tests)
-
-less_true : (m n : ℕ) → m < n → nat_lt m n ≡ true
-less_true m n h = grind (arith, nat_tests, h)
-
-less_false : (m n : ℕ) → m < n → nat_lt n m ≡ false
-less_false m n h = grind (arith, nat_tests, h)
 
 -- the stamp of each after the charge: the one that pays has the next where its quantum is spent
 charged_stamp : (bs : List (Option Budget)) (sc quantum stamp n : ℕ) (b : Budget) → budget_in bs sc ≡ Some b → stamp_in (budget_in (paid_in bs sc quantum stamp) n) ≡ (if n == sc then (if b.left - 1 == 0 then stamp else b.stamp) else stamp_in (budget_in bs n))

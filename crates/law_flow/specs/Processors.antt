@@ -1,12 +1,11 @@
 -- A side with processors of its own: nobody else runs there, and nothing else is to come there.
 -- `C` says which processors are the side's, `S` which domains and `P` which objects.
-use Rattle.std.specs.Prelude.{◌≡◌, ◌⊎◌, ℕ, Bool, true, false, List, [], ◌∷◌, IsSome, filter, map, nat_lt, slice_get, Option, Some, None, option_map}
+use Rattle.std.specs.Prelude.{◌≡◌, ◌⊎◌, ℕ, Bool, true, false, List, [], ◌∷◌, IsSome, filter, map, nat_lt, slice_get, Option, Some, None}
 use Rattle.nova_objects.specs.declared.object.EcKind.{EcKind}
 use Rattle.nova_objects.specs.declared.object.Object.TheVariants.{Ec, Sc}
 use Rattle.nova_model.specs.Edges.{state_in}
 use Rattle.nova_model.specs.Runs.{after, run, trace}
 use Rattle.nova_model.specs.State.{KernelState, budget_at, deadline_of}
-use Rattle.nova_model.specs.declared.budget.Budget.{Budget}
 use Rattle.nova_model.specs.declared.context.State.{State}
 use Rattle.nova_model.specs.declared.context.State.TheVariants.{Blocked, Dead, Parked}
 use Rattle.nova_model.specs.declared.event.Event.{Event}
@@ -14,6 +13,7 @@ use Rattle.nova_model.specs.declared.event.EventKind.{EventKind}
 use Rattle.nova_model.specs.declared.event.EventKind.TheVariants.{Gone, Made}
 use Rattle.nova_model.specs.declared.times.AlarmState.{AlarmState}
 use Rattle.law_forest.specs.Made.{MayCreate}
+use Rattle.law_turns.specs.Budgets.{left_in, stamp_in}
 use Rattle.law_integrity.specs.Confined.{IsMember, Of}
 use Rattle.law_flow.specs.Flow.{AreAlike, own_bytes, own_deeds}
 
@@ -58,11 +58,7 @@ AreAtHome S P C k (cpu ∷ turns) = IsAtHome k (Of S) (Of P) (Of C) × AreAtHome
 
 -- of a scheduling context what is left of its quantum, and its stamp
 abbrev pub left_at : KernelState → ℕ → Option ℕ
-left_at k sc = option_map (λ (b : Budget). b.left) (budget_at k sc)
-
-abbrev pub stamp_in : Option Budget → ℕ
-stamp_in (Some b) = b.stamp
-stamp_in None = 0
+left_at k sc = left_in (budget_at k sc)
 
 abbrev pub stamp_at : KernelState → ℕ → ℕ
 stamp_at k sc = stamp_in (budget_at k sc)

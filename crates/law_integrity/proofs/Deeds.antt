@@ -18,7 +18,7 @@ use Rattle.nova_model.specs.Choice.{Candidate, candidate_of, candidates_from, ch
 use Rattle.nova_model.specs.Deeds.{deed, deed_in, instruction, ready, signalled, stepping}
 use Rattle.nova_model.specs.Deliveries.{delivery, delivers, taken_from, given_to}
 use Rattle.nova_model.specs.Exits.{exit_at, exit_portal, exit_to}
-use Rattle.nova_model.specs.Hypercalls.{and_then, called, create_pd, hypercall, new_domain, or_refuses, replied, row, unless}
+use Rattle.nova_model.specs.Hypercalls.{called, create_pd, hypercall, new_domain, or_refuses, replied, row, unless}
 use Rattle.nova_model.specs.Memory.{Memory}
 use Rattle.nova_model.specs.Portals.{handler_of}
 use Rattle.nova_model.specs.State.{KernelState, context, is_thread, message, pd_of, transfer, is_local_thread}
@@ -34,14 +34,11 @@ use Rattle.nova_model.specs.declared.transfer.Delivery.{Delivery}
 use Rattle.nova_model.specs.declared.transfer.Transfer.{Transfer}
 use Rattle.nova_objects.specs.declared.object.Object.{Object}
 use Rattle.nova_objects.specs.declared.object.Object.TheVariants.{Sc}
+use Rattle.law_turns.proofs.Hypercalls.{next_same}
 
 -- the state with another memory
 abbrev pub over : KernelState → Memory → KernelState
 over k m = record k { memory = m }
-
-pub next_same : {A B : Type 0} (o : Result A Status) (f g : A → Result B Status) → ((x : A) → f x ≡ g x) → and_then o f ≡ and_then o g
-next_same (Err status) f g same = refl
-next_same (Ok x) f g same = same x
 
 unless_same : {A : Type 0} (t : Bool) (status : Status) (a b : Result A Status) → a ≡ b → unless t status a ≡ unless t status b
 unless_same t status a b same = ap (unless t status) same

@@ -56,7 +56,7 @@ use Rattle.law_integrity.specs.Rights.{Again, AtCall, IsAsking}
 use Rattle.law_integrity.specs.Rightful.{IsStep}
 use Rattle.law_integrity.proofs.Findings.{Found}
 use Rattle.law_integrity.proofs.Rows.{call_found}
-use Rattle.law_integrity.proofs.Deeds.{next_same}
+use Rattle.law_turns.proofs.Hypercalls.{next_same}
 use Rattle.law_integrity.proofs.Masking.{AreMasked, ReadsSame, Words, admitted_same, busy_same, exit_admitted_same, over, revoked_same, words_in}
 
 -- WHAT AN EXIT TELLS

@@ -29,7 +29,8 @@ use Rattle.law_forest.specs.Effects.{Falls, Passing, Ticks, branch_by, branched,
 use Rattle.law_forest.specs.Turns.{acting, budgets_charged, budgets_paid, passing, passing_event, stamp_charged, stamp_paid, turned}
 use Rattle.law_turns.proofs.Paying as paying
 use Rattle.law_turns.proofs.Paying.{turn_is}
-use Rattle.law_sameness.specs.Counts.{Counts, counts_after, counts_of, first_stamp, IsFresh, left_in, paid, paid_with, renewed, stamp_in, ticked, with_child, with_object}
+use Rattle.law_turns.specs.Budgets.{left_in}
+use Rattle.law_sameness.specs.Counts.{Counts, counts_after, counts_of, first_stamp, IsFresh, paid, paid_with, renewed, stamp_in, ticked, with_child, with_object}
 
 get_end : {T : Type 0} (xs : List T) → slice_get xs (length xs) ≡ None
 get_end [] = refl

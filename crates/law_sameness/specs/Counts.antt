@@ -8,6 +8,7 @@ use Rattle.nova_model.specs.declared.budget.Budget.{Budget}
 use Rattle.nova_model.specs.declared.event.Event.{Event}
 use Rattle.nova_model.specs.declared.event.EventKind.{EventKind}
 use Rattle.nova_model.specs.declared.event.EventKind.TheVariants as event
+use Rattle.law_turns.specs.Budgets.{left_in}
 
 pub record Counts : Type 0 where
   pub clocks : List ℕ
@@ -63,10 +64,6 @@ paid t sc left other = paid_with t sc left
 
 abbrev pub ticked : Counts → ℕ → Counts
 ticked t cpu = record t { clocks = slice_set t.clocks cpu (slice_index t.clocks cpu + 1) }
-
-abbrev pub left_in : Option Budget → Option ℕ
-left_in (Some b) = Some b.left
-left_in None = None
 
 -- what is counted after a turn of this event, from one state to another
 abbrev pub counts_after : Counts → KernelState → Event → KernelState → Counts

@@ -23,6 +23,7 @@ pub mod Paying
 pub mod Stamps
 pub mod Ticks
 pub mod Quanta
+pub mod Budgets
 pub mod Schedules
 pub mod Paid
 pub mod Idleness
@@ -45,6 +46,7 @@ pub mod Cursors
 pub mod Sharing
 pub mod Holding
 pub mod Asking
+pub mod Hypercalls
 pub mod MessageWriters
 pub mod Raising
 pub mod Windows

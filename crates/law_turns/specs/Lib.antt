@@ -17,4 +17,5 @@ pub mod Windows
 pub mod Stirs
 pub mod Revoking
 pub mod Left
+pub mod Budgets
 pub mod Moments

@@ -5,7 +5,7 @@ ghost use Rattle.nova_model.specs.Boot.{boot, with_images};
 ghost use Rattle.nova_model.specs.Sources.{with_sources};
 ghost use Rattle.nova_boot.specs.Boot.{scenario_of, image_of, source_of, LieInRam};
 
-use nova_kernel::{Kernel, Root};
+use nova_kernel::{Kernel, Root, let_go};
 use nova_scenario::{Image, Scenario, SourceRow};
 use std::alloc::{AllocError, Global};
 
@@ -47,9 +47,6 @@ fn make(kernel: &mut Kernel, sources: &[SourceRow]) -> Result<(), AllocError>
     }
     Ok(())
 }
-
-/// Lets go of a value.
-fn let_go<T: Drop>(_value: T) {}
 
 /// Boots the kernel of `scenario`: the machine boots with its root domain, and then the images are laid into
 /// RAM and the sources are made. The console log has room for `log_room` bytes.

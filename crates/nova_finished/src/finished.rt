@@ -35,13 +35,8 @@ pub struct Finished {
 /// Drops a value out of line, part by part.
 fn destroy<T: Drop>(_value: T) {}
 
-/// Drops `kernel`. A kernel has many parts, which are proved to drop here, and not once more in each crate above.
-pub fn let_go(kernel: Kernel) {
-    destroy(kernel);
-}
-
 impl Finished {
-    /// Drops the run, as `let_go` drops a kernel.
+    /// Drops the run, as `nova_kernel::let_go` drops a kernel.
     pub fn let_go(self) {
         destroy(self);
     }

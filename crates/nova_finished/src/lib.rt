@@ -7,4 +7,4 @@ mod finished;
 
 pub use block::Block;
 pub use fault::RunFault;
-pub use finished::{Finished, let_go};
+pub use finished::Finished;

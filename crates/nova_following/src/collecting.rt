@@ -7,8 +7,8 @@ ghost use Rattle.nova_twin.specs.Sides.{IsAlone, IsBeginning, IsFound, IsSide};
 
 use crate::following::follow;
 use crate::trail::Trail;
-use nova_finished::{RunFault, let_go};
-use nova_kernel::Kernel;
+use nova_finished::RunFault;
+use nova_kernel::{Kernel, let_go};
 use nova_order::Order;
 use nova_twin::Side;
 use std::alloc::Global;

@@ -7,8 +7,8 @@ ghost use Rattle.nova_rounds.specs.Finished.{IsFinished, IsFreeOfIdle};
 ghost use Rattle.nova_rounds.specs.Taken.{last_events};
 ghost use Rattle.nova_rounds.specs.UnderWay.{IsReady, Passed, taken};
 
-use nova_finished::{Finished, RunFault, let_go};
-use nova_kernel::{Event, Kernel, StepsTaken, Turn, TurnsTaken};
+use nova_finished::{Finished, RunFault};
+use nova_kernel::{Event, Kernel, StepsTaken, Turn, TurnsTaken, let_go};
 use nova_order::Order;
 use nova_trace::Trace;
 use std::alloc::{AllocError, Global};

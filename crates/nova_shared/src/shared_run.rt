@@ -6,8 +6,8 @@ ghost use Rattle.nova_shared.specs.Told.{HasNone, IsTold, IsRefused};
 
 use crate::block::BlockDone;
 use crate::turn::SharedTurn;
-use nova_finished::{Block, Finished, let_go};
-use nova_kernel::Kernel;
+use nova_finished::{Block, Finished};
+use nova_kernel::{Kernel, let_go};
 use nova_lock::Historied;
 use std::marker::Model;
 
