@@ -3,7 +3,7 @@
 #![tactic(auto)]
 
 mod bench;
-mod booted;
+mod booting;
 mod exit;
 mod fetched;
 mod outcome;
@@ -12,7 +12,7 @@ mod sending;
 mod subjects;
 
 pub use bench::bench_scenario;
-pub use booted::booted;
+pub use booting::booted;
 pub use exit::{Exit, OrderWhy, ScenarioWhy, TwinWhy};
 pub use fetched::{fetch_order, fetch_scenario, fetch_subjects};
 pub use outcome::{Outcome, closed, recorded, summed_up, valid};

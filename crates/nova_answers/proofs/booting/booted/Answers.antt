@@ -3,7 +3,7 @@ use Rattle.std.proofs.lemmas.Result.{IfOk-weaker}
 use Rattle.nova_kernel.specs.Views.{KernelView}
 use Rattle.nova_boot.specs.Boot.{scenario_of}
 use Rattle.nova_boot.proofs.Started.{boot_cpus, boot_turns}
-use Rattle.nova_answers.proofs.booted.booted.Goals as goal
+use Rattle.nova_answers.proofs.booting.booted.Goals as goal
 
 pub returns-clause-cpus : goal.returns-clause-cpus
 returns-clause-cpus c =
