@@ -8,3 +8,4 @@ pub mod Choosing
 pub mod Paying
 pub mod Given
 pub mod Turns
+pub mod Spinning

@@ -1,11 +1,12 @@
-ghost use Rattle.std.specs.Prelude.{◌≡◌, ℕ, List};
+ghost use Rattle.std.specs.Prelude.{◌≡◌, ◌≢◌, ℕ, List, replicate};
 ghost use Rattle.nova_model.specs.Boot.{Scenario, boot};
 ghost use Rattle.nova_model.specs.Choice.{choose, is_quiet};
 ghost use Rattle.nova_model.specs.Runs.{after, run, trace};
 ghost use Rattle.nova_model.specs.State.{KernelState, Stirs};
 ghost use Rattle.nova_model.specs.Turn.{answer_of, turn};
 ghost use Rattle.law_turns.specs.Keeping.{IsKept};
-ghost use Rattle.law_alike.specs.Alike.{IsAlike, AreStampsGiven, TellNoTicks, TellsNoTicks};
+ghost use Rattle.law_alike.specs.Alike.{IsAlike, AreStampsGiven, TellNoTicks, TellsNoTicks, stamp};
+ghost use Rattle.law_alike.specs.Examples.{spinning};
 
 /// Each state is alike to itself, also with other counts of turns and stir counts; states are alike both ways, and what is alike to one state is alike
 /// to each other.
@@ -52,4 +53,11 @@ pub fn alike_states_are_as_one()
     ensures delegations { (k l : KernelState) → IsAlike k l → k.delegations ≡ l.delegations }
     ensures memory { (k l : KernelState) → IsAlike k l → k.memory ≡ l.memory }
     ensures quiet { (k l : KernelState) → IsAlike k l → is_quiet k ≡ is_quiet l }
+{}
+
+/// A run that spins comes to one state, but for what counts turns. The root jumps to itself, on quanta of one turn: after however many turns the state
+/// is alike to the first, though from the first one on its scheduling context has another stamp.
+pub fn a_spinning_run_stays_alike()
+    ensures alike { (n : ℕ) → IsAlike (run (boot spinning) (replicate n 0)) (boot spinning) }
+    ensures differ { stamp (after (boot spinning) 0) 2 ≢ stamp (boot spinning) 2 }
 {}

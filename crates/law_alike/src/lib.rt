@@ -5,5 +5,6 @@
 mod laws;
 
 pub use laws::{
-    alike_states_are_as_one, alike_states_have_alike_turns, alikeness_is_an_equivalence,
+    a_spinning_run_stays_alike, alike_states_are_as_one, alike_states_have_alike_turns,
+    alikeness_is_an_equivalence,
 };

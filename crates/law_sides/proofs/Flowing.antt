@@ -15,7 +15,8 @@ use Rattle.nova_ties.specs.declared.tie.Cause.TheVariants as cause
 use Rattle.nova_ties.specs.declared.tie.Tie.{Tie}
 use Rattle.law_sides.specs.Isolated.{AreIsolated}
 use Rattle.law_sides.specs.Tied.{flowing, flowing_by, flowing_of_kind, flows_by, meets, overlaps, overlaps_all, overlaps_by, weak}
-use Rattle.law_sides.proofs.Frames.{frame_meets}
+use Rattle.law_sides.specs.Told.{IsFlowing}
+use Rattle.law_sides.proofs.Frames.{frame_meets, meets_frame}
 use Rattle.law_sides.proofs.Lists.{all_flat}
 
 in_left : {T : Type 0} (xs ys : List T) (y : T) → IsIn xs y → IsIn (xs ++ ys) y
@@ -75,27 +76,44 @@ module _ {shared : ℕ → Bool} {flows : ℕ → ℕ → Bool} (k : KernelState
       (in_flat (flowing_by by_labels k.delegations.list) k.delegations.list d pair (in_from_contains k.delegations.list d reach.there) here)
 
 module _ (flows : ℕ → ℕ → Bool) (k : KernelState) (label : ℕ → ℕ) where
-  abbrev Flows : Tie → Type 0
-  Flows t = flows (label t.from) (label t.to) ≡ true
+  abbrev Told : Tie → Type 0
+  Told = IsFlowing flows k label
 
-  by_pair : (d e : Derivation) (s : Kind) → AllByRecursion Flows (option_to_list (overlaps_by true (flows_by flows label) s d e))
-  by_pair d e Obj = tt
-  by_pair d e Mem = by_test (meets d e && flows (label d.pd) (label e.pd)) refl
-    where
-      by_test : (t : Bool) → (meets d e && flows (label d.pd) (label e.pd)) ≡ t → AllByRecursion Flows (option_to_list (if t then Some (weak d.pd e.pd (cause.Frames d.id e.id)) else None))
-      by_test true both = ((and_parts (meets d e) (flows (label d.pd) (label e.pd)) both).1, tt)
-      by_test false both = tt
+  module _ (d : Derivation) (there : Contains k.delegations.list d) where
+    module _ (kind : d.kind ≡ Mem) (writes : allows d.rights write_right ≡ true) where
+      by_pair : (e : Derivation) → Contains k.delegations.list e → (s : Kind) → e.kind ≡ s → AllByRecursion Told (option_to_list (overlaps_by true (flows_by flows label) s d e))
+      by_pair e its Obj is = tt
+      by_pair e its Mem is = by_test (meets d e && flows (label d.pd) (label e.pd)) refl
+        where
+          told : (meets d e && flows (label d.pd) (label e.pd)) ≡ true → Told (weak d.pd e.pd (cause.Frames d.id e.id))
+          told both =
+              let parts = and_parts (meets d e) (flows (label d.pd) (label e.pd)) both in
+              let met = meets_frame d e parts.0 in
+              record {
+                frame = met.0;
+                writes = record { derivation = d; there = there; of = refl; kind = kind; leads = met.1; allowed = writes };
+                reaches = record { derivation = e; there = its; of = refl; kind = is; leads = met.2 };
+                pair = refl;
+                flow = parts.1;
+              }
 
-  by_right : (d : Derivation) (t : Bool) → AllByRecursion Flows (overlaps_all true (flows_by flows label) k.delegations.list d t)
-  by_right d true = all_flat Flows (λ (e : Derivation). option_to_list (overlaps true (flows_by flows label) d e)) k.delegations.list (λ e i. by_pair d e e.kind)
-  by_right d false = tt
+          by_test : (t : Bool) → (meets d e && flows (label d.pd) (label e.pd)) ≡ t → AllByRecursion Told (option_to_list (if t then Some (weak d.pd e.pd (cause.Frames d.id e.id)) else None))
+          by_test true both = (told both, tt)
+          by_test false both = tt
 
-  by_kind : (d : Derivation) (s : Kind) → AllByRecursion Flows (flowing_of_kind (flows_by flows label) k.delegations.list d s)
-  by_kind d Mem = by_right d (allows d.rights write_right)
-  by_kind d Obj = tt
+    by_right : d.kind ≡ Mem → (t : Bool) → allows d.rights write_right ≡ t → AllByRecursion Told (overlaps_all true (flows_by flows label) k.delegations.list d t)
+    by_right kind true writes =
+        all_flat Told (λ (e : Derivation). option_to_list (overlaps true (flows_by flows label) d e)) k.delegations.list
+        (λ e i. by_pair kind writes e (contains_from_in k.delegations.list e i) e.kind refl)
+    by_right kind false none = tt
 
-  pub told_flows : (t : Tie) → Contains (flowing (flows_by flows label) k) t → flows (label t.from) (label t.to) ≡ true
+    by_kind : (s : Kind) → d.kind ≡ s → AllByRecursion Told (flowing_of_kind (flows_by flows label) k.delegations.list d s)
+    by_kind Mem is = by_right is (allows d.rights write_right) refl
+    by_kind Obj is = tt
+
+  pub told_flows : (t : Tie) → Contains (flowing (flows_by flows label) k) t → IsFlowing flows k label t
   unfolding flowing
   told_flows t there =
-      all_at Flows (flat_map (flowing_by (flows_by flows label) k.delegations.list) k.delegations.list) t
-      (all_flat Flows (flowing_by (flows_by flows label) k.delegations.list) k.delegations.list (λ d i. by_kind d d.kind)) (in_from_contains _ t there)
+      all_at Told (flat_map (flowing_by (flows_by flows label) k.delegations.list) k.delegations.list) t
+      (all_flat Told (flowing_by (flows_by flows label) k.delegations.list) k.delegations.list (λ d i. by_kind d (contains_from_in k.delegations.list d i) d.kind refl))
+      (in_from_contains _ t there)

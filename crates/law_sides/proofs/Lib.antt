@@ -21,3 +21,4 @@ pub mod Stuck
 pub mod Untouched
 pub mod Words
 pub mod Ranges
+pub mod Once

@@ -1,11 +1,11 @@
 -- All memory that two sides reach and neither may write is told, and no other is.
-use Rattle.std.proofs.Common.{◌≡◌, ◌≢◌, ◌⊎◌, ◌<◌, ◌≤◌, ℕ, List, [], refl, sym, ap, ◌∙◌, subst, inl, inr, arith}
+use Rattle.std.proofs.Common.{◌≡◌, ◌≢◌, ◌⊎◌, ◌<◌, ◌≤◌, ℕ, [], refl, sym, ap, ◌∙◌, subst, inl, inr, arith}
 use Rattle.std.specs.Prelude.{◌==◌, ◌&&◌, Bool, true, false, not, if◌then◌else◌, flat_map, nat_le, Contains, Option, Some, None, option_to_list}
 use Rattle.std.specs.List.{AllByRecursion}
-use Rattle.std.proofs.lemmas.Bool.{and_parts, cases_lt, eqb-false, le-leb, ne_eqb, not-true}
+use Rattle.std.proofs.lemmas.Bool.{and_parts, cases_lt, eqb-false, le-leb, leb-true, ne_eqb, not-true}
 use Rattle.nova_range.specs.Rights.{allows, write_right}
 use Rattle.nova_range.specs.declared.range.Kind.{Kind}
-use Rattle.nova_range.specs.declared.range.Kind.TheVariants.{Mem}
+use Rattle.nova_range.specs.declared.range.Kind.TheVariants.{Mem, Obj}
 use Rattle.nova_model.specs.Delegations.{is_memory}
 use Rattle.nova_model.specs.State.{KernelState}
 use Rattle.nova_model.specs.declared.delegation.Derivation.{Derivation}
@@ -16,8 +16,9 @@ use Rattle.law_integrity.specs.Trusted.{Labelled}
 use Rattle.nova_ties.specs.declared.tie.Cause.TheVariants as cause
 use Rattle.nova_ties.specs.declared.tie.Tie.{Tie}
 use Rattle.law_sides.specs.Tied.{are_read, both_read, is_read, meets, reading, reading_by, weak}
+use Rattle.law_sides.specs.Told.{IsRead}
 use Rattle.law_sides.proofs.Flowing.{in_flat}
-use Rattle.law_sides.proofs.Frames.{frame_meets}
+use Rattle.law_sides.proofs.Frames.{frame_meets, meets_frame}
 use Rattle.law_sides.proofs.Lists.{all_flat}
 
 module _ (k : KernelState) (label : ℕ → ℕ) where
@@ -69,26 +70,64 @@ module _ (k : KernelState) (label : ℕ → ℕ) where
           inl (pair_told one.derivation two.derivation one.there (here one.derivation two.derivation two.there one_is
           (both_is one.derivation two.derivation frame two_is (λ same. apart (sym two.of ∙ same ∙ one.of)) before one.leads two.leads)))
 
-  -- of two sides
-  abbrev AreTwo : Tie → Type 0
-  AreTwo t = (label t.from ≢ 0) × (label t.to ≢ 0) × (label t.to ≢ label t.from)
+  is_mem : (s : Kind) → is_memory s ≡ true → s ≡ Mem
+  is_mem Mem is = refl
+  is_mem Obj is = absurd (cc)
 
-  some_side : (d : Derivation) → is_read label d ≡ true → label d.pd ≢ 0
-  some_side d is = eqb-false (label d.pd) 0 (not-true (label d.pd == 0) (and_parts (not (label d.pd == 0)) (is_memory d.kind && not (allows d.rights write_right)) is).0)
+  -- what one is that is read
+  record Reads (d : Derivation) : Type 0 where
+    sided : label d.pd ≢ 0
+    kind : d.kind ≡ Mem
+    none : allows d.rights write_right ≡ false
 
-  by_pair : (d e : Derivation) → is_read label d ≡ true → (t : Bool) → are_read label d e ≡ t → AllByRecursion AreTwo (option_to_list (if t then Some (pair d e) else None))
-  by_pair d e is false none = tt
-  by_pair d e is true both =
-      let parts = and_parts (is_read label e) (not (label e.pd == label d.pd) && (nat_le d.id e.id && meets d e)) both in
-      let later = and_parts (not (label e.pd == label d.pd)) (nat_le d.id e.id && meets d e) parts.1 in
-      ((some_side d is, some_side e parts.0, eqb-false (label e.pd) (label d.pd) (not-true (label e.pd == label d.pd) later.0)), tt)
+  read_from : (d : Derivation) → is_read label d ≡ true → Reads d
+  read_from d is =
+      let parts = and_parts (not (label d.pd == 0)) (is_memory d.kind && not (allows d.rights write_right)) is in
+      let more = and_parts (is_memory d.kind) (not (allows d.rights write_right)) parts.1 in
+      record {
+        sided = eqb-false (label d.pd) 0 (not-true (label d.pd == 0) parts.0);
+        kind = is_mem d.kind more.0;
+        none = not-true (allows d.rights write_right) more.1;
+      }
 
-  by_read : (d : Derivation) (t : Bool) → is_read label d ≡ t → AllByRecursion AreTwo (if t then flat_map (λ (e : Derivation). option_to_list (both_read label d e)) k.delegations.list else [])
-  by_read d false is = tt
-  by_read d true is = all_flat AreTwo (λ (e : Derivation). option_to_list (both_read label d e)) k.delegations.list (λ e i. by_pair d e is (are_read label d e) refl)
+  module _ (d : Derivation) (there : Contains k.delegations.list d) (is : is_read label d ≡ true) where
+    reads : Reads d
+    reads = read_from d is
 
-  pub told_reads : (t : Tie) → Contains (reading label k) t → (label t.from ≢ 0) × (label t.to ≢ 0) × (label t.to ≢ label t.from)
+    told : (e : Derivation) → Contains k.delegations.list e → are_read label d e ≡ true → IsRead k label (pair d e)
+    told e its both =
+        let parts = and_parts (is_read label e) (not (label e.pd == label d.pd) && (nat_le d.id e.id && meets d e)) both in
+        let later = and_parts (not (label e.pd == label d.pd)) (nat_le d.id e.id && meets d e) parts.1 in
+        let last = and_parts (nat_le d.id e.id) (meets d e) later.1 in
+        let met = meets_frame d e last.1 in
+        let other = read_from e parts.0 in
+        record {
+          frame = met.0;
+          one = record { derivation = d; there = there; of = refl; kind = reads.kind; leads = met.1 };
+          two = record { derivation = e; there = its; of = refl; kind = other.kind; leads = met.2 };
+          pair = refl;
+          order = leb-true d.id e.id last.0;
+          first = reads.none;
+          second = other.none;
+          side = reads.sided;
+          other = other.sided;
+          apart = eqb-false (label e.pd) (label d.pd) (not-true (label e.pd == label d.pd) later.0);
+        }
+
+    by_pair : (e : Derivation) → Contains k.delegations.list e → (t : Bool) → are_read label d e ≡ t → AllByRecursion (IsRead k label) (option_to_list (if t then Some (pair d e) else None))
+    by_pair e its false none = tt
+    by_pair e its true both = (told e its both, tt)
+
+  by_read : (d : Derivation) → Contains k.delegations.list d → (t : Bool) → is_read label d ≡ t →
+      AllByRecursion (IsRead k label) (if t then flat_map (λ (e : Derivation). option_to_list (both_read label d e)) k.delegations.list else [])
+  by_read d there false is = tt
+  by_read d there true is =
+      all_flat (IsRead k label) (λ (e : Derivation). option_to_list (both_read label d e)) k.delegations.list
+      (λ e i. by_pair d there is e (contains_from_in k.delegations.list e i) (are_read label d e) refl)
+
+  pub told_reads : (t : Tie) → Contains (reading label k) t → IsRead k label t
   unfolding reading
   told_reads t there =
-      all_at AreTwo (flat_map (reading_by label k.delegations.list) k.delegations.list) t
-      (all_flat AreTwo (reading_by label k.delegations.list) k.delegations.list (λ d i. by_read d (is_read label d) refl)) (in_from_contains _ t there)
+      all_at (IsRead k label) (flat_map (reading_by label k.delegations.list) k.delegations.list) t
+      (all_flat (IsRead k label) (reading_by label k.delegations.list) k.delegations.list (λ d i. by_read d (contains_from_in k.delegations.list d i) (is_read label d) refl))
+      (in_from_contains _ t there)

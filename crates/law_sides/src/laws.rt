@@ -20,6 +20,7 @@ ghost use Rattle.law_sides.specs.Resting.{IsAtRest, StayIsolated};
 ghost use Rattle.law_sides.specs.Roles.{AreHarmless};
 ghost use Rattle.law_sides.specs.Shared.{StaysOrWakesAtShared};
 ghost use Rattle.law_sides.specs.Tied.{flowing, flows_by, reading, ties, weak};
+ghost use Rattle.law_sides.specs.Told.{AreOnce, IsFlowing, IsRead};
 
 /// Sides are isolated, but for semaphores that they share and memory that flows between them on purpose, exactly where their labels respect the ties
 /// of the state.
@@ -95,7 +96,8 @@ pub fn a_source_is_not_reached_by_its_sink()
 {}
 
 /// All memory that flows is told: where a side may write a frame that another isolated side reaches, any two capabilities by which they do are a pair
-/// that is told; and each pair is of two protection domains of which the first's side flows to the second's.
+/// that is told; and each pair that is told is of such capabilities, of two protection domains of which the first's side flows to the second's.
+/// None is told twice in a state that turns reach from a boot state.
 pub fn all_memory_that_flows_is_told()
     ensures all { (shared : ℕ → Bool) (flows : ℕ → ℕ → Bool) (k : KernelState) (label : ℕ → ℕ) (side other frame : ℕ)
         → AreIsolated shared flows k label
@@ -107,11 +109,14 @@ pub fn all_memory_that_flows_is_told()
         → Contains (flowing (flows_by flows label) k)
         (weak writes.derivation.pd reaches.derivation.pd (Frames writes.derivation.id reaches.derivation.id)) }
     ensures only { (flows : ℕ → ℕ → Bool) (k : KernelState) (label : ℕ → ℕ) (t : Tie)
-        → Contains (flowing (flows_by flows label) k) t → flows (label t.from) (label t.to) ≡ true }
+        → Contains (flowing (flows_by flows label) k) t → IsFlowing flows k label t }
+    ensures once { (flows : ℕ → ℕ → Bool) (scenario : Scenario) (turns : List ℕ) (label : ℕ → ℕ)
+        → AreOnce (flowing (flows_by flows label) (run (boot scenario) turns)) }
 {}
 
 /// All memory that two sides reach and neither may write is told: any two capabilities of two sides that lead to one frame, without the right to write,
-/// are a pair that is told, in the order of their numbers; and each pair is of protection domains of two sides.
+/// are a pair that is told, in the order of their numbers; and each pair that is told is of such capabilities. None is told twice in a state that turns
+/// reach from a boot state.
 pub fn all_memory_that_two_sides_read_is_told()
     ensures all { (k : KernelState) (label : ℕ → ℕ) (side other frame : ℕ)
         → side ≢ 0
@@ -124,7 +129,8 @@ pub fn all_memory_that_two_sides_read_is_told()
         → Contains (reading label k) (weak one.derivation.pd two.derivation.pd (Frames one.derivation.id two.derivation.id))
         ⊎ Contains (reading label k) (weak two.derivation.pd one.derivation.pd (Frames two.derivation.id one.derivation.id)) }
     ensures only { (k : KernelState) (label : ℕ → ℕ) (t : Tie)
-        → Contains (reading label k) t → (label t.from ≢ 0) × (label t.to ≢ 0) × (label t.to ≢ label t.from) }
+        → Contains (reading label k) t → IsRead k label t }
+    ensures once { (scenario : Scenario) (turns : List ℕ) (label : ℕ → ℕ) → AreOnce (reading label (run (boot scenario) turns)) }
 {}
 
 /// Take semaphores that sides share on purpose, by a test, and sides within their policy but for these in such a state. A turn of one side changes no

@@ -1,11 +1,11 @@
 -- What comes of joining sides: the ties are respected, and no sides are joined that needn't be.
 use Rattle.std.proofs.Common.{◌≡◌, ◌≢◌, ◌⊎◌, ◌<◌, ◌≤◌, ◌+◌, ◌++◌, ℕ, zero, suc, List, [], ◌∷◌, length, take, drop, set, get_or, refl, sym, ap, ap₂, ◌∙◌, subst, inl, inr, arith}
-use Rattle.std.specs.Prelude.{◌==◌, ◌||◌, ◌&&◌, Bool, true, false, not, if◌then◌else◌, max, min, Option, Some, None, map, IfNone, IfSome}
+use Rattle.std.specs.Prelude.{◌==◌, ◌||◌, ◌&&◌, Bool, true, false, not, if◌then◌else◌, max, min, Option, Some, None, find, map, IfNone, IfSome}
 use Rattle.std.proofs.lemmas.Bool.{and_parts, cases_eq, cases_lt, eq-eqb, eqb-false, eqb-true, ne_eqb, not-false, not-true, or_cases, or_parts}
 use Rattle.std.proofs.lemmas.List.{append_assoc, at_drop_all, at_drop_more, drop-set-lt, drop_more, take_more_set}
 use Rattle.std.proofs.lemmas.List.Elements.{Contains-append_right, Contains-get_or}
 use Rattle.std.proofs.lemmas.Option.{same_Some}
-use Rattle.nova_ties.specs.Ties.{AreLeast, AreRespected, IsCoarser, IsStuck, Respects, is_met, is_respected, label_in, met, renamed, settled}
+use Rattle.nova_ties.specs.Ties.{AreLeast, AreRespected, IsCoarser, IsStuck, Respects, is_met, is_respected, is_stuck, label_in, met, renamed, settled}
 use Rattle.nova_ties.specs.declared.tie.Tie.{Tie}
 
 -- THE TEST OF A TIE
@@ -277,6 +277,41 @@ least_along a b c coarser upper lower = record {
         let l = lower.had u.0 (λ none. some (sym u.2 ∙ none)) in
         (l.0, coarser.joined l.0 u.0 (λ none. some (sym (l.1 ∙ u.2) ∙ none)) l.1 ∙ u.1, l.2 ∙ u.2)
 
+-- WHICH TIE IS STUCK
+
+find_on : (test : Tie → Bool) (t : Tie) (ties : List Tie) → test t ≡ false → find test (t ∷ ties) ≡ find test ties
+find_on test t ties is = ap (λ (b : Bool). if b then Some t else find test ties) is
+
+find_here : (test : Tie → Bool) (t : Tie) (ties : List Tie) → test t ≡ true → find test (t ∷ ties) ≡ Some t
+find_here test t ties is = ap (λ (b : Bool). if b then Some t else find test ties) is
+
+find_alike : (one other : Tie → Bool) (ties : List Tie) → ((t : Tie) → one t ≡ other t) → find one ties ≡ find other ties
+find_alike one other [] same = refl
+find_alike one other (t ∷ ties) same = ap₂ (λ (b : Bool) (o : Option Tie). if b then Some t else o) (same t) (find_alike one other ties same)
+
+-- whether one is depends on which domains are trusted alone
+stuck_alike : (one other : ℕ → ℕ) → ((n : ℕ) → (one n == 0) ≡ (other n == 0)) → (t : Tie) → is_stuck one t ≡ is_stuck other t
+stuck_alike one other same t = ap₂ (λ (from to : Bool). t.strict && (not from && to)) (same t.from) (same t.to)
+
+-- what labels respect isn't stuck, and neither is what can be met
+respected_free : (label : ℕ → ℕ) (t : Tie) → Respects label t → is_stuck label t ≡ false
+respected_free label t holds = by_tests t.strict refl (label t.from == 0) refl (label t.to == 0) refl
+  where
+    no : t.strict ≡ true → label t.from ≢ 0 → label t.to ≡ 0 → (label t.to ≡ label t.from) ⊎ ((t.strict ≡ false) × (label t.to ≡ 0)) → ⊥
+    no strict some none (inl same) = some (sym same ∙ none)
+    no strict some none (inr weak) = absurd (let true_is_false : true ≡ false = sym strict ∙ weak.0 in cc)
+
+    by_tests : (s : Bool) → t.strict ≡ s → (f : Bool) → (label t.from == 0) ≡ f → (z : Bool) → (label t.to == 0) ≡ z → (s && (not f && z)) ≡ false
+    by_tests false s f is z none = refl
+    by_tests true s true is z none = refl
+    by_tests true s false is false none = refl
+    by_tests true s false is true none =
+        let some = eqb-false (label t.from) 0 is in
+        absurd (no s some (eqb-true (label t.to) 0 none) (holds some))
+
+met_free : (old new : List ℕ) (t : Tie) → IsMet old t new → is_stuck (label_in old) t ≡ false
+met_free old new t m = sym (stuck_alike (label_in new) (label_in old) (met_zero old new t m) t) ∙ respected_free (label_in new) t (met_respects old new t m)
+
 -- the tie at which it stops
 stops : (t : Tie) (ties : List Tie) (old : List ℕ) → is_met old t ≡ false → IsStuck (t ∷ ties) (label_in old) t
 stops t ties old is =
@@ -286,11 +321,16 @@ stops t ties old is =
     let strict = is_strict broken none in
     record {
       there = Contains-get_or (t ∷ ties) 0 t (omega arith);
+      sided = broken.from;
       trusted = none;
       strict = strict;
+      first = find_here (is_stuck (label_in old)) t ties (by_parts strict (ne_eqb (label_in old t.from) 0 broken.from) (eq-eqb (label_in old t.to) 0 none));
       no = λ label all c its. by_one label (c.sides t.from broken.from) (all.0 (c.sides t.from broken.from)) strict its;
     }
   where
+    by_parts : t.strict ≡ true → (label_in old t.from == 0) ≡ false → (label_in old t.to == 0) ≡ true → is_stuck (label_in old) t ≡ true
+    by_parts strict from to = ap (λ (s : Bool). s && (not (label_in old t.from == 0) && (label_in old t.to == 0))) strict ∙ ap₂ (λ (f z : Bool). not f && z) from to
+
     is_strict : IsBroken (label_in old) t → label_in old t.to ≡ 0 → t.strict ≡ true
     is_strict broken none = elim broken.to [
       | inl strict ↦ strict
@@ -307,8 +347,12 @@ stuck_later t u ties old is s =
     let m = met_is old t is in
     record {
       there = Contains-append_right (t ∷ []) ties u s.there;
+      sided = λ none. s.sided (met_none old (met old t) t m u.from none);
       trusted = was m (cases_eq (label_in old u.to) 0);
       strict = s.strict;
+      first = find_on (is_stuck (label_in old)) t ties (met_free old (met old t) t m)
+          ∙ sym (find_alike (is_stuck (label_in (met old t))) (is_stuck (label_in old)) ties (stuck_alike (label_in (met old t)) (label_in old) (met_zero old (met old t) t m)))
+          ∙ s.first;
       no = λ label all c. s.no label all.1 (met_finest old (met old t) t label m all.0 c);
     }
   where

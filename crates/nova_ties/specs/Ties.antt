@@ -1,6 +1,6 @@
 -- Ties between domains, labels that respect them, and how sides are joined.
 -- A label says of each domain whose it is: 0 is trusted, and any other number is a side.
-use Rattle.std.specs.Prelude.{◌≡◌, ◌≢◌, ◌⊎◌, ◌==◌, ◌≤◌, ◌&&◌, ◌||◌, ℕ, max, min, Bool, true, false, not, if◌then◌else◌, Contains, List, [], ◌∷◌, Option, Some, None, map, slice_get}
+use Rattle.std.specs.Prelude.{◌≡◌, ◌≢◌, ◌⊎◌, ◌==◌, ◌≤◌, ◌&&◌, ◌||◌, ℕ, max, min, Bool, true, false, not, if◌then◌else◌, Contains, List, [], ◌∷◌, Option, Some, None, find, map, slice_get}
 use Rattle.std.specs.List.{AllByRecursion}
 use Rattle.nova_ties.specs.declared.tie.Tie.{Tie}
 
@@ -40,11 +40,17 @@ pub record AreLeast (label old : ℕ → ℕ) : Type 0 where
   pub had : (n : ℕ) → label n ≢ 0 → (m : ℕ) × (label m ≡ label n) × (old m ≡ label n)
   pub least : (m n : ℕ) → label m ≡ label n → label n ≤ old m
 
--- a tie that leads to what is trusted, and that no coarser labels respect that respect all others and trust it, too
+-- a tie leads from a side to what is trusted, and may not
+abbrev pub is_stuck : (ℕ → ℕ) → Tie → Bool
+is_stuck label t = t.strict && (not (label t.from == 0) && (label t.to == 0))
+
+-- the first such tie of a list: a side's own, and for it no coarser labels that respect all ties trust to where it leads
 pub record IsStuck (ties : List Tie) (fine : ℕ → ℕ) (t : Tie) : Type 0 where
   pub there : Contains ties t
+  pub sided : fine t.from ≢ 0
   pub trusted : fine t.to ≡ 0
   pub strict : t.strict ≡ true
+  pub first : find (is_stuck fine) ties ≡ Some t
   pub no : (label : ℕ → ℕ) → AreRespected label ties → IsCoarser label fine → label t.to ≢ 0
 
 -- HOW SIDES ARE JOINED

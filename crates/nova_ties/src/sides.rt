@@ -50,7 +50,7 @@ fn settle_each(labels: &mut [u32], ties: &[Tie]) -> Option<Tie>
 
 /// Joins sides in `labels` until all `ties` are respected, where that can be. Trusted are those that were before. No others are joined than must be:
 /// whatever labels respect the ties, and trust no domain that isn't trusted here, have the same label where these have. A side has the least label that
-/// one of its domains had. Where it can't be, a tie is answered that no such labels respect, if they trust its second domain, which is trusted here.
+/// one of its domains had. Where it can't be, the first strict tie is answered that leads from a side to what is trusted: no such labels respect it.
 pub fn settle(labels: &mut [u32], ties: &[Tie]) -> Option<Tie>
     ensures respected { IfNone result (AreRespected (label_in labels.new) ties.now) }
     ensures trusted { (n : ℕ) → (label_in labels.new n == 0) ≡ (label_in labels.old n == 0) }
