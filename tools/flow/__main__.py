@@ -100,7 +100,7 @@ def compared(program: Program, name: str, scenarios: list[str], places: list[Blo
 
 
 def walled_pair(program: Program, seed: int, turns: int, revokes: bool) -> tuple[set[str], str | None, int]:
-    """A side at work on a processor of its own, which revokes or not, with deadlines and a source, beside one that tries everything."""
+    """A side at work on a processor of its own, which revokes or not, with deadlines, beside one that tries everything; its processor's source rings at its semaphore, at the other's or at the root's."""
     scenarios = []
     for other in (0, 1):
         first, second = random.Random(f"source {seed}"), random.Random(f"source {seed} {other}")
@@ -110,7 +110,8 @@ def walled_pair(program: Program, seed: int, turns: int, revokes: bool) -> tuple
             f"source 2 {second.choice([340, 500])} {second.choice([1, 2, 9, 50])} 1000000",
         )
         side = Reviser(0, seed) if revokes else Worker(0, seed)
-        scenarios.append(SetUp(walled=True, sources=sources).text([side, Attacker(1, f"{seed} {other}")]))
+        rings = ("own", "own", "other", "root")[seed % 4]
+        scenarios.append(SetUp(walled=True, sources=sources, rings=rings).text([side, Attacker(1, f"{seed} {other}")]))
     return compared(program, f"walled.{seed}", scenarios, [MADE, MADE_BETWEEN if seed % 2 else MADE], turns, revokes)
 
 

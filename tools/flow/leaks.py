@@ -35,6 +35,7 @@ SPINS = [li(9, 170), "spin: addi x9, x9, -1", "bne x9, x0, spin"]  # longer than
 
 
 GIVES_ON = message([(word("mem", LENT_PAGE, 0, 1), COMMON[1] << 12 | 1)]) + call(0, 422, 0) + ["ebreak"]  # the root gives the page on to the other side
+WAITS = call(12, 3 + 1, 1)  # the root waits for the source of the side's processor
 ONE_MORE = call(6, 203, 0, 0) + ["ebreak"]  # the root makes a semaphore, when the side is there
 
 
@@ -139,11 +140,11 @@ LEAKS = {
         first=2,
         handlers=(Taker, Giver),
     ),
-    "outsider": Leak(
-        "an alarm of the processor rings at a semaphore of the other side's: the event says whether somebody waits there",
-        frozenset({"HasHome.alarms"}),
+    "woken": Leak(
+        "an alarm of the processor wakes a thread of the root's there: it goes on, or ends",
+        frozenset({"AreSeparate.rest"}),
         COUNTS,
-        others=(RESTS, call(12, SHARED, 1)),
+        root=(WAITS + ["on: j on"], WAITS + ["ebreak"]),
     ),
     "alarm": Leak(
         "an alarm of another processor rings at the side's semaphore: a down tells how many turns came there",

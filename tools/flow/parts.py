@@ -23,26 +23,27 @@ def made_for(domain: int, lines: list[list[str]]) -> range:
 
 
 def objects_of(domain: int, lines: list[list[str]]) -> set[int]:
-    """The objects of the side on processor 1: what the root makes for it, what semaphores it holds, and the one of the source there, if it isn't the others'."""
+    """The objects of the side on processor 1: what the root makes for it, and what semaphores it holds."""
     semaphores = {int(line[1]) for line in lines if line[0] == "sm"}
-    held = [(int(line[3]), int(line[8])) for line in lines if line[0] == "cap" and line[4] == "obj"]
-    own = {target for holder, target in held if holder == domain}
-    others = {target for holder, target in held if holder not in (0, domain)}
-    return set(made_for(domain, lines)) | ({3 + 1} - others) | own & semaphores
+    held = {int(line[8]) for line in lines if line[0] == "cap" and line[4] == "obj" and int(line[3]) == domain}
+    return set(made_for(domain, lines)) | held & semaphores
 
 
-def unnumbered(kind: str, a: str, b: str) -> list[str]:
-    """What an event tells but for numbers of ranges."""
-    return ["0" if kind in ("made", "gone") else a, "0" if kind == "made" else b]
+def told(event: list[str], elsewhere: set[str]) -> list[str]:
+    """An event but for numbers of ranges, and, of a source that rings elsewhere, but for what it finds there."""
+    cpu, context, kind, a, b = event
+    if kind == "irq" and a in elsewhere:
+        return [cpu, "0", kind, a, "0"]
+    return [cpu, context, kind, "0" if kind in ("made", "gone") else a, "0" if kind == "made" else b]
 
 
 def part(report: str, since: int = 0) -> Part:
-    """The events of processor 1 after so many turns, but for numbers of ranges, and what there is of the side that is made there: objects by number, ranges by what they give."""
+    """The events of processor 1 after so many turns, as they are told, and what there is of the side that is made there: objects by number, ranges by what they give."""
     lines = [line.split() for line in report.splitlines()]
     domain = made_at(lines, 1)
     own = objects_of(domain, lines)
-    events = [line[2:] for line in lines if line[0] == "at" and line[2] == "1" and int(line[1]) > since]
-    events = [[*event[:3], *unnumbered(*event[2:])] for event in events]
+    elsewhere = {line[1] for line in lines if line[0] == "source" and int(line[3]) not in own}
+    events = [told(line[2:7], elsewhere) for line in lines if line[0] == "at" and line[2] == "1" and int(line[1]) > since]
     rest = []
     for line in lines:
         if line[0] in ("ec", "sc", "sm") and int(line[1]) in own or line[:2] in (["source", "1"], ["console", "0"]):

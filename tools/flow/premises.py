@@ -1,8 +1,7 @@
 """The premises of `noninterference_on_divided_processors` in the state at the end of a report, for the sides that a root makes.
 
 They are named as the fields of the conditions of `law_flow` and `law_integrity`. S is the domain that the root makes on processor 1, T the one on
-processor 2; P has what the root makes for S, what semaphores S holds, and the one of processor 1's source where T doesn't hold it; and processor 1 is the side's own. What objects are is known
-of how they are made; all else is read off the report.
+processor 2; P has what the root makes for S, and what semaphores S holds; and processor 1 is the side's own. What objects are is known of how they are made; all else is read off the report.
 """
 
 from __future__ import annotations
@@ -95,8 +94,6 @@ def of_processors(state: State) -> set[str]:
             found.add("HasHome.contexts")
     if any(state.contexts[n] not in ("parked", "dead") for n in state.contexts if n not in state.homes):
         found.add("AreSeparate.rest")
-    if any(cpu == 1 and semaphore not in state.own for cpu, semaphore in state.sources):
-        found.add("HasHome.alarms")
     if any(cpu != 1 and semaphore in state.own for cpu, semaphore in state.sources):
         found.add("HasHome.rings")
     return found

@@ -169,9 +169,11 @@ class Free(Side):
 
 
 class Attacker(Free):
-    """A side that tries everything, and more often to come to the other's processor, though it holds no right to create."""
+    """A side that tries everything, and more often to come to the other's processor, though it holds no right to create, and to use the semaphore that it has."""
 
     def step(self, depth: int) -> list[str]:
+        if self.rng.random() < 0.1:
+            return call(12, SHARED, self.rng.choice([0, 1, 2]), self.rng.choice([0, 1, 9, 50])) + self.told()
         if self.rng.random() < 0.15:
             thread = call(3, self.free(), OWN, 0x100 + self.rng.choice([1, 2]), 0, 48)
             return thread + call(4, self.free(), OWN, self.free(), 0x1FF) + self.told()
@@ -274,17 +276,20 @@ class Fixed(Side):
 
 
 class SetUp:
-    """What the root makes. `walled`: no right to create is left with the sides, which hold the semaphore of their processor's source and their scheduling context."""
+    """What the root makes. `walled`: no right to create is left with the sides, which hold the semaphore of their processor's source and their scheduling context.
 
-    def __init__(self, walled: bool = False, leak: str = "", sources: tuple[str, ...] = ()) -> None:
-        self.walled, self.leak = walled, leak
+    `rings`: whose the semaphore of the source on side 0's processor is: its own, the other side's, or the root's.
+    """
+
+    def __init__(self, walled: bool = False, leak: str = "", sources: tuple[str, ...] = (), rings: str = "own") -> None:
+        self.walled, self.leak, self.rings = walled, leak, "root" if leak == "woken" else rings
         self.sources = sources or tuple(f"source {cpu} {FAR} 1 1" for cpu in range(SOURCES))
 
     def semaphore(self, side: int) -> int:
         """The root's selector of the semaphore that a side gets."""
-        if self.leak == "semaphore" or self.leak == "alarm" and side == 1 or self.leak == "outsider" and side == 0:
+        if self.leak == "semaphore" or self.leak == "alarm" and side == 1 or self.rings != "own" and side == 0:
             return 202
-        return {"alarm": 3 + 2, "outsider": 3 + 1}.get(self.leak, 3 + 1 + side)
+        return 3 + 2 if self.leak == "alarm" else 3 + 1 if self.rings == "other" else 3 + 1 + side
 
     def items(self, side: int) -> list[tuple[int, int]]:
         s = 400 + 20 * side

@@ -40,15 +40,16 @@ use Rattle.law_integrity.proofs.Leaving.{leaves_other}
 use Rattle.law_integrity.proofs.Passing.{coming, due_in, turned_by_time}
 use Rattle.law_integrity.proofs.Resting.{acts_in}
 use Rattle.law_flow.specs.Flow.{AreAlike, AreAtWork, DerivesWithin, IsPartitioned, IsAtWork, gain_for, if_own, own_bytes, own_deed, own_deeds, own_turn, RevokesNothing}
-use Rattle.law_flow.specs.Processors.{AreAtHome, AreTimed, IsAtHome, events_on, unnumbered_event}
+use Rattle.law_flow.specs.Processors.{AreAtHome, AreTimed, IsAtHome, unfound, unnumbered_event}
 use Rattle.law_flow.proofs.Choosing.{still_acts}
 use Rattle.law_flow.proofs.Guarding.{GoesOn, OthersTurn, kept_on, next_partitioned, none_made_by, others_derive, others_turn, own_from}
 use Rattle.law_flow.proofs.Own.{own_goes_on}
 use Rattle.law_flow.proofs.Home.{AreTogether, HomeTurn, IsActorOf, actor_there, home_turn, own_none_deed}
 use Rattle.law_flow.proofs.Keeping.{passed_side}
+use Rattle.law_flow.proofs.Ringing.{RingThere, not_both, ring_next}
 use Rattle.law_flow.proofs.Leaving.{some_there, table_same}
 use Rattle.law_flow.proofs.Others.{IsForeign}
-use Rattle.law_flow.proofs.Telling.{told_away, told_here}
+use Rattle.law_flow.proofs.Telling.{told_away, told_here, told_on}
 use Rattle.law_flow.proofs.Turns.{alike_flipped, alike_through, derived_left, left_derived}
 use Rattle.law_flow.proofs.Paying.{timed_by, timed_flipped, timed_through}
 
@@ -58,10 +59,6 @@ pub record AwayTurn (k : KernelState) (S P C : ℕ → Bool) (cpu : ℕ) : Type 
   pub own : own_turn S k cpu ≡ None
   pub turn : OthersTurn k (after k cpu) (Of S) (Of P)
   pub timed : AreTimed k (after k cpu) (Of P) (Of C)
-
-not_both : {A : Type 0} (t : Bool) → t ≡ true → t ≡ false → A
-not_both true first second = absurd (cc)
-not_both false first second = absurd (cc)
 
 pub away_turn : (s : Scenario) (before : List ℕ) (S P C : ℕ → Bool) (T : ℕ → Type 0) (cpu : ℕ) → IsPartitioned (run (boot s) before) (Of S) T (Of P) →
     IsAtHome (run (boot s) before) (Of S) (Of P) (Of C) → C cpu ≡ false → AwayTurn (run (boot s) before) S P C cpu
@@ -314,47 +311,51 @@ pub record GoesHome (k : KernelState) (S P C : ℕ → Bool) (T : ℕ → Type 0
   pub reached : IsReached k S P T
   pub home : AreAtHome S P C k turns
 
+-- alarms ring where they rang
+ring_on : (A : ℕ → Bool) (k : KernelState) (S P C : ℕ → Bool) (T : ℕ → Type 0) (cpu : ℕ) → IsReached k S P T → RingThere A k P C → RingThere A (after k cpu) P C
+ring_on A k S P C T cpu r rings = subst (λ (l : KernelState). RingThere A l P C → RingThere A (after l cpu) P C) r.is (λ it. ring_next A r.scenario r.before P C cpu it) rings
+
 -- the second goes on elsewhere alone
-ends_elsewhere : (revokes : Bool) (S P C : ℕ → Bool) (us : List ℕ) (k l : KernelState) (U : ℕ → Type 0) → AreAlike k l (Of S) (Of P) → AreTogether revokes k l S P C → GoesHome l S P C U us → [] ≡ filter C us →
-    HomeEnds k (run l us) S P C [] (own_deeds S l us) [] (own_bytes S l us) [] (events_on C (trace l us))
-ends_elsewhere revokes S P C [] k l U alike timed g none = record { alike = alike; timed = timed.timed; deeds = refl; bytes = refl; events = refl }
-ends_elsewhere revokes S P C (cpu ∷ us) k l U alike timed g none = by_test (C cpu) refl none (λ a t h rest. ends_elsewhere revokes S P C us k (after l cpu) (more l U cpu) a t h rest)
+ends_elsewhere : (A : ℕ → Bool) (revokes : Bool) (S P C : ℕ → Bool) (us : List ℕ) (k l : KernelState) (U : ℕ → Type 0) → AreAlike k l (Of S) (Of P) → AreTogether revokes k l S P C → GoesHome l S P C U us → [] ≡ filter C us →
+    HomeEnds k (run l us) S P C [] (own_deeds S l us) [] (own_bytes S l us) [] (told_on A C (trace l us))
+ends_elsewhere A revokes S P C [] k l U alike timed g none = record { alike = alike; timed = timed.timed; deeds = refl; bytes = refl; events = refl }
+ends_elsewhere A revokes S P C (cpu ∷ us) k l U alike timed g none = by_test (C cpu) refl none (λ a t h rest. ends_elsewhere A revokes S P C us k (after l cpu) (more l U cpu) a t h rest)
   where
     by_test : (t : Bool) → C cpu ≡ t → [] ≡ (if t then cpu ∷ filter C us else filter C us) →
         (AreAlike k (after l cpu) (Of S) (Of P) → AreTogether revokes k (after l cpu) S P C → GoesHome (after l cpu) S P C (more l U cpu) us → [] ≡ filter C us →
-        HomeEnds k (run (after l cpu) us) S P C [] (own_deeds S (after l cpu) us) [] (own_bytes S (after l cpu) us) [] (events_on C (trace (after l cpu) us))) →
+        HomeEnds k (run (after l cpu) us) S P C [] (own_deeds S (after l cpu) us) [] (own_bytes S (after l cpu) us) [] (told_on A C (trace (after l cpu) us))) →
         HomeEnds k (run (after l cpu) us) S P C [] (in_front (own_deed S l cpu) (own_deeds S (after l cpu) us)) [] (gain_for l cpu (own_turn S l cpu) ++ own_bytes S (after l cpu) us)
-        [] (events_on C (in_front (event_at l cpu) (trace (after l cpu) us)))
+        [] (told_on A C (in_front (event_at l cpu) (trace (after l cpu) us)))
     by_test true is rest later = absurd (cc)
     by_test false is rest later =
         let away = away_at l S P C U cpu g.reached g.home.0 is in
         let ended = later (alike_through k l (after l cpu) (Of S) (Of P) alike away.turn.same) (together_second revokes k l S P C U cpu g.reached away timed)
         (record { reached = away_further l S P C U cpu g.reached g.home.0 is; home = g.home.1 }) rest in
-        record { alike = ended.alike; timed = ended.timed; deeds = ap (λ (o : Option (ℕ × Deed)). in_front o (own_deeds S (after l cpu) us)) (own_none_deed S l cpu away.own) ∙ ended.deeds; bytes = ap (λ (o : Option (ℕ × ℕ)). gain_for l cpu o ++ own_bytes S (after l cpu) us) away.own ∙ ended.bytes; events = told_away C l cpu (trace (after l cpu) us) is ∙ ended.events }
+        record { alike = ended.alike; timed = ended.timed; deeds = ap (λ (o : Option (ℕ × Deed)). in_front o (own_deeds S (after l cpu) us)) (own_none_deed S l cpu away.own) ∙ ended.deeds; bytes = ap (λ (o : Option (ℕ × ℕ)). gain_for l cpu o ++ own_bytes S (after l cpu) us) away.own ∙ ended.bytes; events = told_away A C l cpu (trace (after l cpu) us) is ∙ ended.events }
 
 -- the second goes on elsewhere until the next turn of a processor of the side's, which is as the first's
-meets_home : (revokes : Bool) (S P C : ℕ → Bool) (us : List ℕ) (k l : KernelState) (T U : ℕ → Type 0) (cpu : ℕ) (ts : List ℕ) → C cpu ≡ true → GoesHome k S P C T (cpu ∷ ts) → ((ec sc : ℕ) → own_turn S k cpu ≡ Some (ec, sc) → IsAtWork (Unit {0}) (RevokesNothing k (Of S)) (revokes ≡ true) k ec) → GoesHome l S P C U us →
+meets_home : (A : ℕ → Bool) (revokes : Bool) (S P C : ℕ → Bool) (us : List ℕ) (k l : KernelState) (T U : ℕ → Type 0) (cpu : ℕ) (ts : List ℕ) → C cpu ≡ true → RingThere A k P C → GoesHome k S P C T (cpu ∷ ts) → ((ec sc : ℕ) → own_turn S k cpu ≡ Some (ec, sc) → IsAtWork (Unit {0}) (RevokesNothing k (Of S)) (revokes ≡ true) k ec) → GoesHome l S P C U us →
     AreAlike k l (Of S) (Of P) → AreTogether revokes k l S P C → cpu ∷ filter C ts ≡ filter C us →
     ((vs : List ℕ) (m : KernelState) (V : ℕ → Type 0) → GoesHome m S P C V vs → AreAlike (after k cpu) m (Of S) (Of P) → AreTogether revokes (after k cpu) m S P C → filter C ts ≡ filter C vs →
-    HomeEnds (run (after k cpu) ts) (run m vs) S P C (own_deeds S (after k cpu) ts) (own_deeds S m vs) (own_bytes S (after k cpu) ts) (own_bytes S m vs) (events_on C (trace (after k cpu) ts)) (events_on C (trace m vs))) →
+    HomeEnds (run (after k cpu) ts) (run m vs) S P C (own_deeds S (after k cpu) ts) (own_deeds S m vs) (own_bytes S (after k cpu) ts) (own_bytes S m vs) (told_on A C (trace (after k cpu) ts)) (told_on A C (trace m vs))) →
     HomeEnds (run (after k cpu) ts) (run l us) S P C (in_front (own_deed S k cpu) (own_deeds S (after k cpu) ts)) (own_deeds S l us) (gain_for k cpu (own_turn S k cpu) ++ own_bytes S (after k cpu) ts) (own_bytes S l us)
-    (events_on C (in_front (event_at k cpu) (trace (after k cpu) ts))) (events_on C (trace l us))
-meets_home revokes S P C [] k l T U cpu ts c g w h alike timed same later = absurd (cc)
-meets_home revokes S P C (other ∷ us) k l T U cpu ts c g w h alike timed same later =
-    by_test (C other) refl same (λ next a t rest. meets_home revokes S P C us k (after l other) T (more l U other) cpu ts c g w next a t rest later)
+    (told_on A C (in_front (event_at k cpu) (trace (after k cpu) ts))) (told_on A C (trace l us))
+meets_home A revokes S P C [] k l T U cpu ts c rings g w h alike timed same later = absurd (cc)
+meets_home A revokes S P C (other ∷ us) k l T U cpu ts c rings g w h alike timed same later =
+    by_test (C other) refl same (λ next a t rest. meets_home A revokes S P C us k (after l other) T (more l U other) cpu ts c rings g w next a t rest later)
   where
     by_test : (t : Bool) → C other ≡ t → cpu ∷ filter C ts ≡ (if t then other ∷ filter C us else filter C us) →
         (GoesHome (after l other) S P C (more l U other) us → AreAlike k (after l other) (Of S) (Of P) → AreTogether revokes k (after l other) S P C → cpu ∷ filter C ts ≡ filter C us →
         HomeEnds (run (after k cpu) ts) (run (after l other) us) S P C (in_front (own_deed S k cpu) (own_deeds S (after k cpu) ts)) (own_deeds S (after l other) us) (gain_for k cpu (own_turn S k cpu) ++ own_bytes S (after k cpu) ts) (own_bytes S (after l other) us)
-        (events_on C (in_front (event_at k cpu) (trace (after k cpu) ts))) (events_on C (trace (after l other) us))) →
+        (told_on A C (in_front (event_at k cpu) (trace (after k cpu) ts))) (told_on A C (trace (after l other) us))) →
         HomeEnds (run (after k cpu) ts) (run (after l other) us) S P C (in_front (own_deed S k cpu) (own_deeds S (after k cpu) ts)) (in_front (own_deed S l other) (own_deeds S (after l other) us))
         (gain_for k cpu (own_turn S k cpu) ++ own_bytes S (after k cpu) ts) (gain_for l other (own_turn S l other) ++ own_bytes S (after l other) us)
-        (events_on C (in_front (event_at k cpu) (trace (after k cpu) ts))) (events_on C (in_front (event_at l other) (trace (after l other) us)))
+        (told_on A C (in_front (event_at k cpu) (trace (after k cpu) ts))) (told_on A C (in_front (event_at l other) (trace (after l other) us)))
     by_test false is rest goes_on =
         let away = away_at l S P C U other h.reached h.home.0 is in
         let ended = goes_on (record { reached = away_further l S P C U other h.reached h.home.0 is; home = h.home.1 })
         (alike_through k l (after l other) (Of S) (Of P) alike away.turn.same) (together_second revokes k l S P C U other h.reached away timed) rest in
-        record { alike = ended.alike; timed = ended.timed; deeds = ap (λ (o : Option (ℕ × Deed)). in_front o (own_deeds S (after l other) us)) (own_none_deed S l other away.own) ∙ ended.deeds; bytes = ap (λ (o : Option (ℕ × ℕ)). gain_for l other o ++ own_bytes S (after l other) us) away.own ∙ ended.bytes; events = told_away C l other (trace (after l other) us) is ∙ ended.events }
+        record { alike = ended.alike; timed = ended.timed; deeds = ap (λ (o : Option (ℕ × Deed)). in_front o (own_deeds S (after l other) us)) (own_none_deed S l other away.own) ∙ ended.deeds; bytes = ap (λ (o : Option (ℕ × ℕ)). gain_for l other o ++ own_bytes S (after l other) us) away.own ∙ ended.bytes; events = told_away A C l other (trace (after l other) us) is ∙ ended.events }
     by_test true is rest goes_on =
         let one : cpu ≡ other = cc in
         let tails : filter C ts ≡ filter C us = cc in
@@ -368,28 +369,28 @@ meets_home revokes S P C (other ∷ us) k l T U cpu ts c g w h alike timed same 
               ap₂ (λ (o : Option (ℕ × Deed)) (ds : List (ℕ × Deed)). in_front o ds) (sym (ap (own_deed S l) one) ∙ step.deeds) ended.deeds;
           bytes = ap₂ (λ (xs ys : List LogByte). xs ++ ys) (sym (ap (λ (n : ℕ). gain_for l n (own_turn S l n)) one) ∙ step.bytes) ended.bytes;
           events =
-              told_here C l other (trace (after l other) us) is
-              ∙ ap₂ (λ (o : Option Event) (es : List Event). in_front o es) (sym (ap (λ (n : ℕ). option_map unnumbered_event (event_at l n)) one) ∙ step.event) ended.events
-              ∙ sym (told_here C k cpu (trace (after k cpu) ts) c);
+              told_here A C l other (trace (after l other) us) is
+              ∙ ap₂ (λ (o : Option Event) (es : List Event). in_front o es) (sym (ap (λ (n : ℕ). option_map (unfound A) (option_map unnumbered_event (event_at l n))) one) ∙ step.event A rings) ended.events
+              ∙ sym (told_here A C k cpu (trace (after k cpu) ts) c);
         }
 
-pub home_runs : (revokes : Bool) (S P C : ℕ → Bool) (ts us : List ℕ) (k l : KernelState) (T U : ℕ → Type 0) → GoesHome k S P C T ts → AreAtWork revokes S k ts → GoesHome l S P C U us → AreAlike k l (Of S) (Of P) → AreTogether revokes k l S P C →
-    filter C ts ≡ filter C us → HomeEnds (run k ts) (run l us) S P C (own_deeds S k ts) (own_deeds S l us) (own_bytes S k ts) (own_bytes S l us) (events_on C (trace k ts)) (events_on C (trace l us))
-home_runs revokes S P C [] us k l T U g works h alike timed same = ends_elsewhere revokes S P C us k l U alike timed h same
-home_runs revokes S P C (cpu ∷ ts) us k l T U g works h alike timed same =
-    by_test (C cpu) refl same (λ j vs m V W first at_work second a t rest. home_runs revokes S P C ts vs j m V W first at_work second a t rest)
+pub home_runs : (A : ℕ → Bool) (revokes : Bool) (S P C : ℕ → Bool) (ts us : List ℕ) (k l : KernelState) (T U : ℕ → Type 0) → RingThere A k P C → GoesHome k S P C T ts → AreAtWork revokes S k ts → GoesHome l S P C U us → AreAlike k l (Of S) (Of P) → AreTogether revokes k l S P C →
+    filter C ts ≡ filter C us → HomeEnds (run k ts) (run l us) S P C (own_deeds S k ts) (own_deeds S l us) (own_bytes S k ts) (own_bytes S l us) (told_on A C (trace k ts)) (told_on A C (trace l us))
+home_runs A revokes S P C [] us k l T U rings g works h alike timed same = ends_elsewhere A revokes S P C us k l U alike timed h same
+home_runs A revokes S P C (cpu ∷ ts) us k l T U rings g works h alike timed same =
+    by_test (C cpu) refl same (λ j vs m V W there first at_work second a t rest. home_runs A revokes S P C ts vs j m V W there first at_work second a t rest)
   where
     by_test : (t : Bool) → C cpu ≡ t → (if t then cpu ∷ filter C ts else filter C ts) ≡ filter C us →
-        ((j : KernelState) (vs : List ℕ) (m : KernelState) (V W : ℕ → Type 0) → GoesHome j S P C V ts → AreAtWork revokes S j ts → GoesHome m S P C W vs → AreAlike j m (Of S) (Of P) → AreTogether revokes j m S P C → filter C ts ≡ filter C vs →
-        HomeEnds (run j ts) (run m vs) S P C (own_deeds S j ts) (own_deeds S m vs) (own_bytes S j ts) (own_bytes S m vs) (events_on C (trace j ts)) (events_on C (trace m vs))) →
+        ((j : KernelState) (vs : List ℕ) (m : KernelState) (V W : ℕ → Type 0) → RingThere A j P C → GoesHome j S P C V ts → AreAtWork revokes S j ts → GoesHome m S P C W vs → AreAlike j m (Of S) (Of P) → AreTogether revokes j m S P C → filter C ts ≡ filter C vs →
+        HomeEnds (run j ts) (run m vs) S P C (own_deeds S j ts) (own_deeds S m vs) (own_bytes S j ts) (own_bytes S m vs) (told_on A C (trace j ts)) (told_on A C (trace m vs))) →
         HomeEnds (run (after k cpu) ts) (run l us) S P C (in_front (own_deed S k cpu) (own_deeds S (after k cpu) ts)) (own_deeds S l us) (gain_for k cpu (own_turn S k cpu) ++ own_bytes S (after k cpu) ts) (own_bytes S l us)
-        (events_on C (in_front (event_at k cpu) (trace (after k cpu) ts))) (events_on C (trace l us))
+        (told_on A C (in_front (event_at k cpu) (trace (after k cpu) ts))) (told_on A C (trace l us))
     by_test true is rest later =
-        meets_home revokes S P C us k l T U cpu ts is g works.0 h alike timed rest (λ vs m V next a t tails. later (after k cpu) vs m (more k T cpu) V
+        meets_home A revokes S P C us k l T U cpu ts is rings g works.0 h alike timed rest (λ vs m V next a t tails. later (after k cpu) vs m (more k T cpu) V (ring_on A k S P C T cpu g.reached rings)
         (record { reached = home_further revokes k S P C T cpu g.reached g.home.0 is works.0 (λ yes. (timed.within yes).first); home = g.home.1 }) works.1 next a t tails)
     by_test false is rest later =
         let away = away_at k S P C T cpu g.reached g.home.0 is in
-        let ended = later (after k cpu) us l (more k T cpu) U (record { reached = away_further k S P C T cpu g.reached g.home.0 is; home = g.home.1 }) works.1 h
+        let ended = later (after k cpu) us l (more k T cpu) U (ring_on A k S P C T cpu g.reached rings) (record { reached = away_further k S P C T cpu g.reached g.home.0 is; home = g.home.1 }) works.1 h
         (alike_through (after k cpu) k l (Of S) (Of P) (alike_flipped k (after k cpu) (Of S) (Of P) away.turn.same) alike)
         (together_first revokes k l S P C T cpu g.reached away timed) rest in
-        record { alike = ended.alike; timed = ended.timed; deeds = ended.deeds ∙ sym (ap (λ (o : Option (ℕ × Deed)). in_front o (own_deeds S (after k cpu) ts)) (own_none_deed S k cpu away.own)); bytes = ended.bytes ∙ sym (ap (λ (o : Option (ℕ × ℕ)). gain_for k cpu o ++ own_bytes S (after k cpu) ts) away.own); events = ended.events ∙ sym (told_away C k cpu (trace (after k cpu) ts) is) }
+        record { alike = ended.alike; timed = ended.timed; deeds = ended.deeds ∙ sym (ap (λ (o : Option (ℕ × Deed)). in_front o (own_deeds S (after k cpu) ts)) (own_none_deed S k cpu away.own)); bytes = ended.bytes ∙ sym (ap (λ (o : Option (ℕ × ℕ)). gain_for k cpu o ++ own_bytes S (after k cpu) ts) away.own); events = ended.events ∙ sym (told_away A C k cpu (trace (after k cpu) ts) is) }

@@ -162,7 +162,6 @@ divided_next s before S P C T cpu part d same = record {
     schedules = λ n donor on priority quantum is m.
         d.has.schedules n donor on priority quantum (was n (Sc donor on priority quantum) is)
         (record { domain = m.domain; cpu = m.cpu; kind = m.kind; event = m.event; object = was donor (Ec m.domain m.cpu m.kind m.event) m.object; of = m.of });
-    alarms = λ n a at c. let b = alarm_was s before cpu n a at in subst (λ (x : Alarm). Of P x.sm) b.2 (d.has.alarms n b.0 b.1 (subst (λ (x : Alarm). Of C x.cpu) (sym b.2) c));
     rings = λ n a at p. let b = alarm_was s before cpu n a at in subst (λ (x : Alarm). Of C x.cpu) b.2 (d.has.rings n b.0 b.1 (subst (λ (x : Alarm). Of P x.sm) (sym b.2) p));
   };
   others = λ n pd on kind event is theirs c. by_set n pd on kind event (was n (Ec pd on kind event) is) theirs c;

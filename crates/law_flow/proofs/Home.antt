@@ -1,41 +1,33 @@
 -- A turn of a processor of the side's in two states, and of any other.
-use Rattle.std.proofs.Common.{◌≡◌, ℕ, zero, suc, List, [], ◌∷◌, refl, sym, ap, ◌∙◌, subst, inl, inr}
-use Rattle.std.specs.Prelude.{Bool, true, IfSome, IsSome, is_some, slice_get, slice_set, option_map, option_and_then, Option, Some, None}
+use Rattle.std.proofs.Common.{◌≡◌, ℕ, zero, suc, List, refl, sym, ap, ◌∙◌, subst}
+use Rattle.std.specs.Prelude.{Bool, true, false, IfSome, IsSome, is_some, slice_get, option_map, option_and_then, Option, Some, None}
 use Rattle.std.proofs.lemmas.Option.{same_Some}
 use Rattle.nova_objects.specs.declared.object.EcKind.{EcKind}
 use Rattle.nova_objects.specs.declared.object.Object.{Object}
 use Rattle.nova_objects.specs.declared.object.Object.TheVariants.{Pd, Ec, Sc, Pt, Sm}
-use Rattle.nova_range.specs.declared.status.Status.{Status}
-use Rattle.nova_range.specs.Statuses.{status_code}
-use Rattle.nova_range.specs.declared.status.Status.TheVariants.{Success, Timeout}
 use Rattle.nova_model.specs.Boot.{Scenario, boot}
 use Rattle.nova_model.specs.Capabilities.{is_ec}
-use Rattle.nova_model.specs.Choice.{Candidate, choice, next_to_act, unless_due}
+use Rattle.nova_model.specs.Choice.{Candidate, choice, next_to_act}
 use Rattle.nova_model.specs.Deeds.{deed}
 use Rattle.nova_model.specs.Edges.{AreEdges, after_edges, cpu_in, edge, is_giving}
 use Rattle.nova_model.specs.Inputs.{is_stirred}
 use Rattle.nova_model.specs.Runs.{after, run}
-use Rattle.nova_model.specs.Semaphores.{raised, semaphore, without_one, woken}
-use Rattle.nova_model.specs.State.{Contexts, KernelState, Semaphore, context, context_at, deadline_of, entry, pd_in, pd_of, processor_in, processor_of}
-use Rattle.nova_model.specs.Times.{alarm_sm, deadline_sm, due_on, next_entry, next_moment, rung_in, rung_once}
-use Rattle.nova_model.specs.Turn.{answer_of, event_without, number_in, status_of, turn, whom_of}
+use Rattle.nova_model.specs.Semaphores.{semaphore}
+use Rattle.nova_model.specs.State.{Contexts, KernelState, context, context_at, pd_in, pd_of, processor_in, processor_of}
+use Rattle.nova_model.specs.Times.{alarm_sm, due_on, next_entry, next_moment}
+use Rattle.nova_model.specs.Turn.{answer_of, turn}
 use Rattle.nova_model.specs.declared.context.EcState.{EcState}
 use Rattle.nova_model.specs.declared.deed.Deed.{Deed}
 use Rattle.nova_model.specs.declared.event.Event.{Event}
-use Rattle.nova_model.specs.declared.event.EventKind.TheVariants.{Irq, Late}
 use Rattle.nova_model.specs.declared.event.Turn.TheVariants.{Stepped}
-use Rattle.nova_model.specs.declared.times.AlarmState.{AlarmState}
 use Rattle.nova_model.specs.declared.times.Deadline.{Deadline}
 use Rattle.nova_model.specs.declared.times.Due.{Due}
 use Rattle.nova_model.specs.declared.times.Due.TheVariants as due
-use Rattle.law_forest.specs.Effects.{Falls, Passing, Ticks, all_edited, clears_by, deadlines_with, ends_by, passing_ends, passing_semaphore, semaphores_with, with_status}
+use Rattle.law_forest.specs.Effects.{Falls, Passing, Ticks}
 use Rattle.law_forest.specs.Turns.{IsPassing, passing, passing_event, turned}
 use Rattle.law_forest.proofs.Turning.{acts_next, due_answers, due_turn, event_at, idle_none, tick_answers, tick_turn}
 use Rattle.law_turns.proofs.Deadlines.{at_home}
-use Rattle.law_turns.proofs.Dues.{due_is}
-use Rattle.law_turns.proofs.Links.{place}
 use Rattle.law_turns.proofs.Serving.{actor_of}
-use Rattle.law_turns.proofs.Setting.{get_other}
 use Rattle.law_turns.proofs.Stamps.{stamps_below}
 use Rattle.law_turns.proofs.Suited.{tables_suit}
 use Rattle.law_turns.proofs.TablesFit.{chosen_acts}
@@ -47,118 +39,20 @@ use Rattle.law_integrity.specs.Confined.{IsOwned, Of}
 use Rattle.law_integrity.specs.Rights.{HasTurn}
 use Rattle.law_integrity.proofs.Authorised.{has_turn}
 use Rattle.law_integrity.proofs.Beside.{idle_stays}
-use Rattle.law_flow.specs.Flow.{AreAlike, HasSameClock, fronts, gain_for, IsPartitioned, IsAtWork, if_own, own_deed, own_turn, RevokesNothing, AreGivingWithin, AreRevokingWithin, IsGivingWithin, unnumbered}
-use Rattle.law_flow.specs.Processors.{AreTimed, IsAtHome, unnumbered_event}
-use Rattle.law_flow.proofs.Seeing.{Both, context_same, semaphore_same}
+use Rattle.law_flow.specs.Flow.{AreAlike, HasSameClock, gain_for, IsPartitioned, IsAtWork, if_own, own_deed, own_turn, RevokesNothing, AreGivingWithin, AreRevokingWithin, IsGivingWithin, unnumbered}
+use Rattle.law_flow.specs.Processors.{AreTimed, IsAtHome, unfound, unnumbered_event}
+use Rattle.law_flow.proofs.Seeing.{Both, context_same}
 use Rattle.law_flow.proofs.Pairs.{first_made, first_own, same_event, second_made}
 use Rattle.law_flow.proofs.Within.{revokes_second, within_partition, works_too}
-use Rattle.law_flow.proofs.Doing.{Shown, by_deed, shown_contexts}
-use Rattle.law_flow.proofs.Tables.{change_same, deadlines_same, edits_alike, fronts_alike}
-use Rattle.law_flow.proofs.Timing.{clock_same, deadline_mine, due_same, entries_same}
+use Rattle.law_flow.proofs.Doing.{by_deed}
+use Rattle.law_flow.proofs.Timing.{clock_same, due_same, entries_same}
 use Rattle.law_flow.proofs.Choosing.{ChosenSame, Rank, chosen_same, stamped}
-use Rattle.law_flow.proofs.Paying.{clocks_ticked, own_timed}
+use Rattle.law_flow.proofs.Paying.{own_timed}
 use Rattle.law_flow.proofs.Telling.{chosen_told, event_told, none_told}
 use Rattle.law_flow.proofs.Turns.{AreTwins, decided, own_alike, own_derived, own_gains, own_is, own_of, own_turned, work_as}
 use Rattle.law_flow.proofs.Own.{own_derives_on}
+use Rattle.law_flow.proofs.Ringing.{IsWithin, RingThere, due_nobody, nobody_own, none_there, pass_same, passed_alike, passed_timed, rung_alike, unfound_ring}
 use Rattle.law_flow.proofs.Taking.{revoking_kept}
-
--- WHAT COMES BY ITSELF ON A PROCESSOR OF THE SIDE'S
-
--- it ends the same waits in both, changes the same semaphore in the same way, and has the same event
-record PassSame (k l : KernelState) (cpu : ℕ) (p : Passing) : Type 0 where
-  ends : passing_ends l p ≡ passing_ends k p
-  semaphore : passing_semaphore l p ≡ passing_semaphore k p
-  event : passing_event l cpu p ≡ passing_event k cpu p
-
-passed_alike : (k l : KernelState) (S P : ℕ → Type 0) → Both k l S P → (cpu : ℕ) (p : Passing) → PassSame k l cpu p → AreAlike (turned k cpu (passing k p)) (turned l cpu (passing l p)) S P
-passed_alike k l S P b cpu p same = record {
-  objects = b.alike.objects;
-  fronts = λ n q.
-      ap (λ (e : Option (ℕ × Status)). slice_get (fronts (all_edited l.contexts (ends_by e))) n) same.ends ∙ fronts_alike P k.contexts l.contexts (ends_by (passing_ends k p)) b.alike.fronts n q;
-  contexts = λ n q s.
-      ap (λ (e : Option (ℕ × Status)). slice_get (all_edited l.contexts (ends_by e)) n) same.ends
-      ∙ edits_alike (Shown k S P) k.contexts l.contexts (ends_by (passing_ends k p)) (shown_contexts k l S P b) n (q, s);
-  messages = b.alike.messages;
-  transfers = b.alike.transfers;
-  identifiers = b.alike.identifiers;
-  semaphores = λ n q.
-      ap (λ (o : Option (ℕ × (Semaphore → Semaphore))). slice_get (semaphores_with l.semaphores o) n) same.semaphore
-      ∙ change_same P k.semaphores l.semaphores (passing_semaphore k p) b.alike.semaphores n q;
-  ticks = b.alike.ticks;
-  deadlines = λ n q.
-      ap (λ (e : Option (ℕ × Status)). slice_get (deadlines_with l.times.deadlines (clears_by e)) n) same.ends
-      ∙ deadlines_same P k.times.deadlines l.times.deadlines (clears_by (passing_ends k p)) b.alike.deadlines n q;
-  spaces = b.alike.spaces;
-  origins = b.alike.origins;
-  frames = b.alike.frames;
-  size = b.alike.size;
-}
-
-abbrev alarm_ends : KernelState → Option AlarmState → Option (ℕ × Status)
-alarm_ends k o = with_status Success (whom_of (woken (semaphore k.semaphores (alarm_sm o))))
-
-abbrev rung_event : ℕ → ℕ → Semaphore → Event
-rung_event cpu n s = event_without cpu (number_in (whom_of (woken s))) Irq n (status_of (woken s))
-
-pass_same : (k l : KernelState) (S P C : ℕ → Type 0) → Both k l S P → IsSound k → IsAtHome k S P C → AreTimed k l P C → (cpu : ℕ) (p : Passing) → C cpu → IsPassing k cpu p → PassSame k l cpu p
-pass_same k l S P C b sound home t cpu (Falls (due.Alarm n)) c is =
-    let its = due_is k.times cpu (due.Alarm n) is in
-    let a = its.entry.alarm in
-    let here : C a.alarm.cpu = subst C (sym its.entry.its) c in
-    let sm : P a.alarm.sm = home.has.alarms n a its.entry.there here in
-    let one : slice_get l.times.alarms n ≡ slice_get k.times.alarms n = t.alarms n a its.entry.there here ∙ sym its.entry.there in
-    let mine : P (alarm_sm (slice_get k.times.alarms n)) = subst P (sym (ap alarm_sm its.entry.there)) sm in
-    record {
-      ends = ap (alarm_ends l) one ∙ ap (λ (s : Semaphore). with_status Success (whom_of (woken s))) (semaphore_same k l S P b (alarm_sm (slice_get k.times.alarms n)) mine);
-      semaphore = ap (λ (o : Option AlarmState). Some (alarm_sm o, raised)) one;
-      event = ap (λ (o : Option AlarmState). rung_event cpu n (semaphore l.semaphores (alarm_sm o))) one
-          ∙ ap (rung_event cpu n) (semaphore_same k l S P b (alarm_sm (slice_get k.times.alarms n)) mine);
-    }
-pass_same k l S P C b sound home t cpu (Falls (due.Deadline ec)) c is =
-    let its = due_is k.times cpu (due.Deadline ec) is in
-    let p = deadline_mine k S P C sound b.side home ec its.entry.deadline its.entry.there (subst C (sym its.entry.its) c) in
-    let one : deadline_of l.times ec ≡ deadline_of k.times ec = ap (λ (o : Option (Option Deadline)). entry o) (b.alike.deadlines ec p) in
-    record {
-      ends = refl;
-      semaphore = ap (λ (o : Option Deadline). Some (deadline_sm o, without_one ec)) one;
-      event = ap (λ (o : Option Deadline). event_without cpu ec Late (deadline_sm o) (status_code Timeout)) one;
-    }
-pass_same k l S P C b sound home t cpu Ticks c is = record { ends = refl; semaphore = refl; event = refl }
-
-set_there : {T : Type 0} (xs : List T) (n : ℕ) (x : T) → IsSome (slice_get xs n) → slice_get (slice_set xs n x) n ≡ Some x
-set_there [] n x there = absurd (cc)
-set_there (y ∷ xs) zero x there = refl
-set_there (y ∷ xs) (suc n) x there = set_there xs n x there
-
-rung_same : (C : ℕ → Type 0) (xs ys : List AlarmState) (n : ℕ) (b : AlarmState) → slice_get xs n ≡ Some b → slice_get ys n ≡ Some b →
-    ((i : ℕ) (a : AlarmState) → slice_get xs i ≡ Some a → C a.alarm.cpu → slice_get ys i ≡ Some a) → (i : ℕ) (a : AlarmState) → slice_get (rung_in xs n (slice_get xs n)) i ≡ Some a → C a.alarm.cpu →
-    slice_get (rung_in ys n (slice_get ys n)) i ≡ Some a
-rung_same C xs ys n b first second same i a at c = elim (place i n) [
-  | inl is ↦
-      let ours : slice_get (rung_in xs n (slice_get xs n)) i ≡ Some (rung_once b) =
-      ap (λ (o : Option AlarmState). slice_get (rung_in xs n o) i) first ∙ ap (slice_get (slice_set xs n (rung_once b))) is ∙ set_there xs n (rung_once b) (subst IsSome (sym first) refl) in
-      let theirs : slice_get (rung_in ys n (slice_get ys n)) i ≡ Some (rung_once b) =
-      ap (λ (o : Option AlarmState). slice_get (rung_in ys n o) i) second ∙ ap (slice_get (slice_set ys n (rung_once b))) is ∙ set_there ys n (rung_once b) (subst IsSome (sym second) refl) in
-      theirs ∙ sym ours ∙ at
-  | inr other ↦
-      ap (λ (o : Option AlarmState). slice_get (rung_in ys n o) i) second ∙ get_other ys n i (rung_once b) other
-      ∙ same i a (sym (get_other xs n i (rung_once b) other) ∙ sym (ap (λ (o : Option AlarmState). slice_get (rung_in xs n o) i) first) ∙ at) c
-]
-
-passed_timed : (k l : KernelState) (P C : ℕ → Type 0) (cpu : ℕ) (p : Passing) → AreTimed k l P C → C cpu → IsPassing k cpu p → AreTimed (turned k cpu (passing k p)) (turned l cpu (passing l p)) P C
-passed_timed k l P C cpu (Falls (due.Alarm n)) t c is =
-    let its = due_is k.times cpu (due.Alarm n) is in
-    let here : C its.entry.alarm.alarm.cpu = subst C (sym its.entry.its) c in
-    let there = t.alarms n its.entry.alarm its.entry.there here in
-    record {
-      clocks = clocks_ticked k l P C cpu t c;
-      alarms = rung_same C k.times.alarms l.times.alarms n its.entry.alarm its.entry.there there t.alarms;
-      same_alarms = rung_same C l.times.alarms k.times.alarms n its.entry.alarm there its.entry.there t.same_alarms;
-      left = t.left;
-      order = t.order;
-    }
-passed_timed k l P C cpu (Falls (due.Deadline ec)) t c is = record { clocks = clocks_ticked k l P C cpu t c; alarms = t.alarms; same_alarms = t.same_alarms; left = t.left; order = t.order }
-passed_timed k l P C cpu Ticks t c is = record { clocks = clocks_ticked k l P C cpu t c; alarms = t.alarms; same_alarms = t.same_alarms; left = t.left; order = t.order }
 
 -- THE TURN OF A PROCESSOR OF THE SIDE'S
 
@@ -173,16 +67,8 @@ pub record HomeTurn (revokes : Bool) (k l : KernelState) (S P C : ℕ → Bool) 
   pub timed : AreTogether revokes (after k cpu) (after l cpu) S P C
   pub deeds : own_deed S l cpu ≡ own_deed S k cpu
   pub bytes : gain_for l cpu (own_turn S l cpu) ≡ gain_for k cpu (own_turn S k cpu)
-  pub event : option_map unnumbered_event (event_at l cpu) ≡ option_map unnumbered_event (event_at k cpu)
+  pub event : (A : ℕ → Bool) → RingThere A k P C → option_map (unfound A) (option_map unnumbered_event (event_at l cpu)) ≡ option_map (unfound A) (option_map unnumbered_event (event_at k cpu))
   pub works : (ec sc : ℕ) → own_turn S l cpu ≡ Some (ec, sc) → IsAtWork (Unit {0}) (RevokesNothing l (Of S)) (revokes ≡ true) l ec
-
--- a turn in which nobody acts
-pub nobody_own : (S : ℕ → Bool) (k : KernelState) (cpu : ℕ) → next_to_act k cpu ≡ None → own_turn S k cpu ≡ None
-nobody_own S k cpu none = ap (λ (o : Option Candidate). option_and_then (λ c. if_own (S (pd_of k c.actor)) c) o) none
-
-due_nobody : (k : KernelState) (cpu : ℕ) (what : Due) → due_on k.times cpu ≡ Some what → next_to_act k cpu ≡ None
-unfolding next_to_act
-due_nobody k cpu what is = ap (λ (o : Option Due). unless_due o (choice k cpu)) is
 
 pub own_none_deed : (S : ℕ → Bool) (k : KernelState) (cpu : ℕ) → own_turn S k cpu ≡ None → own_deed S k cpu ≡ None
 own_none_deed S k cpu none = ap (λ (o : Option (ℕ × ℕ)). option_map (λ (p : ℕ × ℕ). (p.0, unnumbered (deed k p.0))) o) none
@@ -294,7 +180,8 @@ home_turn revokes a b x y S P C T U cpu first second alike together home abroad 
 
     -- by states that both come to
     so : (m n : KernelState) → after (run (boot a) x) cpu ≡ m → after (run (boot b) y) cpu ≡ n → AreAlike m n (Of S) (Of P) → AreTimed m n (Of P) (Of C) → m.delegations ≡ (run (boot a) x).delegations → n.delegations ≡ (run (boot b) y).delegations →
-        own_turn S (run (boot a) x) cpu ≡ None → own_turn S (run (boot b) y) cpu ≡ None → option_map unnumbered_event (event_at (run (boot b) y) cpu) ≡ option_map unnumbered_event (event_at (run (boot a) x) cpu) →
+        own_turn S (run (boot a) x) cpu ≡ None → own_turn S (run (boot b) y) cpu ≡ None →
+        ((A : ℕ → Bool) → RingThere A (run (boot a) x) P C → option_map (unfound A) (option_map unnumbered_event (event_at (run (boot b) y) cpu)) ≡ option_map (unfound A) (option_map unnumbered_event (event_at (run (boot a) x) cpu))) →
         HomeTurn revokes (run (boot a) x) (run (boot b) y) S P C cpu
     so m n is its alike_ timed_ kept left one other told = record {
       alike = subst (λ (s : KernelState). AreAlike s (after l cpu) (Of S) (Of P)) (sym is) (subst (λ (s : KernelState). AreAlike m s (Of S) (Of P)) (sym its) alike_);
@@ -308,14 +195,28 @@ home_turn revokes a b x y S P C T U cpu first second alike together home abroad 
       works = λ ec sc own. absurd (let both : None ≡ Some (ec, sc) = sym other ∙ own in cc);
     }
 
-    passes : (p : Passing) → IsPassing (run (boot a) x) cpu p → after (run (boot a) x) cpu ≡ turned (run (boot a) x) cpu (passing (run (boot a) x) p) →
+    passes : (p : Passing) → IsPassing (run (boot a) x) cpu p → IsWithin (run (boot a) x) (Of P) p → after (run (boot a) x) cpu ≡ turned (run (boot a) x) cpu (passing (run (boot a) x) p) →
         after (run (boot b) y) cpu ≡ turned (run (boot b) y) cpu (passing (run (boot b) y) p) → next_to_act (run (boot a) x) cpu ≡ None → next_to_act (run (boot b) y) cpu ≡ None →
         answer_of (turn (run (boot a) x) cpu) ≡ Stepped (passing_event (run (boot a) x) cpu p) → answer_of (turn (run (boot b) y) cpu) ≡ Stepped (passing_event (run (boot b) y) cpu p) →
         HomeTurn revokes (run (boot a) x) (run (boot b) y) S P C cpu
-    passes p is one other none nothing first_answer second_answer =
-        let same = pass_same k l (Of S) (Of P) (Of C) two sound home timed cpu p c is in
+    passes p is its one other none nothing first_answer second_answer =
+        let same = pass_same k l (Of S) (Of P) (Of C) two sound home timed cpu p c is its in
         so _ _ one other (passed_alike k l (Of S) (Of P) two cpu p same) (passed_timed k l (Of P) (Of C) cpu p timed c is) refl refl (nobody_own S k cpu none) (nobody_own S l cpu nothing)
-        (ap (option_map unnumbered_event) (event_told l cpu (passing_event l cpu p) second_answer ∙ ap (λ (e : Event). Some e) same.event ∙ sym (event_told k cpu (passing_event k cpu p) first_answer)))
+        (λ A rings. ap (λ (o : Option Event). option_map (unfound A) (option_map unnumbered_event o)) (event_told l cpu (passing_event l cpu p) second_answer ∙ ap (λ (e : Event). Some e) same.event ∙ sym (event_told k cpu (passing_event k cpu p) first_answer)))
+
+    -- an alarm at another's semaphore
+    rings : (n : ℕ) → due_on (run (boot a) x).times cpu ≡ Some (due.Alarm n) → P (alarm_sm (slice_get (run (boot a) x).times.alarms n)) ≡ false → HomeTurn revokes (run (boot a) x) (run (boot b) y) S P C cpu
+    rings n is out =
+        let its : due_on l.times cpu ≡ Some (due.Alarm n) = due_so ∙ is in
+        let ring_k = passing_event k cpu (Falls (due.Alarm n)) in
+        let ring_l = passing_event l cpu (Falls (due.Alarm n)) in
+        so _ _ (due_turn k cpu (due.Alarm n) is) (due_turn l cpu (due.Alarm n) its) (rung_alike a b x y S P (Of C) T U cpu n first second alike timed c is its out)
+        (passed_timed k l (Of P) (Of C) cpu (Falls (due.Alarm n)) timed c is) refl refl (nobody_own S k cpu (due_nobody k cpu (due.Alarm n) is)) (nobody_own S l cpu (due_nobody l cpu (due.Alarm n) its))
+        (λ A there.
+        let none = none_there A k P C cpu n there c is out in
+        let told_k = ap (λ (o : Option Event). option_map (unfound A) (option_map unnumbered_event o)) (event_told k cpu ring_k (due_answers k cpu (due.Alarm n) is)) in
+        let told_l = ap (λ (o : Option Event). option_map (unfound A) (option_map unnumbered_event o)) (event_told l cpu ring_l (due_answers l cpu (due.Alarm n) its)) in
+        told_l ∙ ap (λ (e : Event). Some e) (unfound_ring A l cpu n none ∙ sym (unfound_ring A k cpu n none)) ∙ sym told_k)
 
     acts_ : (r : Rank) → chosen.rank ≡ Some r → due_on (run (boot a) x).times cpu ≡ None → HomeTurn revokes (run (boot a) x) (run (boot b) y) S P C cpu
     acts_ r is calm =
@@ -358,9 +259,10 @@ home_turn revokes a b x y S P C T U cpu first second alike together home abroad 
               ap (λ (o : Option (ℕ × ℕ)). option_map (λ (p : ℕ × ℕ). (p.0, unnumbered (deed l p.0))) o) theirs ∙ ap (λ (d : Deed). Some (r.actor, d)) same
               ∙ sym (ap (λ (o : Option (ℕ × ℕ)). option_map (λ (p : ℕ × ℕ). (p.0, unnumbered (deed k p.0))) o) own);
           bytes = ap (gain_for l cpu) theirs ∙ own_gains k l S P cpu cpu r.actor r.sc twins own theirs at_work ∙ sym (ap (gain_for k cpu) own);
-          event =
-              ap (option_map unnumbered_event) (chosen_told l cpu (stamped l r) other) ∙ ap (λ (e : Event). Some e) (same_event cpu r.sc r.actor (deed k r.actor) (deed l r.actor) same)
-              ∙ sym (ap (option_map unnumbered_event) (chosen_told k cpu (stamped k r) one));
+          event = λ A rings.
+              ap (option_map (unfound A))
+              (ap (option_map unnumbered_event) (chosen_told l cpu (stamped l r) other) ∙ ap (λ (e : Event). Some e) (same_event cpu r.sc r.actor (deed k r.actor) (deed l r.actor) same)
+              ∙ sym (ap (option_map unnumbered_event) (chosen_told k cpu (stamped k r) one)));
           works = λ ec sc its_own.
               let both = same_pair r.actor r.sc ec sc (sym theirs ∙ its_own) in
               subst (λ (n : ℕ). IsAtWork (Unit {0}) (RevokesNothing l (Of S)) (revokes ≡ true) l n) both again;
@@ -370,10 +272,10 @@ home_turn revokes a b x y S P C T U cpu first second alike together home abroad 
         HomeTurn revokes (run (boot a) x) (run (boot b) y) S P C cpu
     by_moment None quiet calm none nothing =
         so k l (idle_stays k cpu none quiet) (idle_stays l cpu nothing (moment_so ∙ quiet)) alike timed refl refl (nobody_own S k cpu (idle_none k cpu none)) (nobody_own S l cpu (idle_none l cpu nothing))
-        (ap (option_map unnumbered_event) (none_told l cpu nothing (moment_so ∙ quiet) ∙ sym (none_told k cpu none quiet)))
+        (λ A rings. ap (λ (o : Option Event). option_map (unfound A) (option_map unnumbered_event o)) (none_told l cpu nothing (moment_so ∙ quiet) ∙ sym (none_told k cpu none quiet)))
     by_moment (Some moment) comes_ calm none nothing =
         let some : IsSome (next_moment k.times cpu) = subst IsSome (sym comes_) refl in
-        passes Ticks (calm, none, some) (tick_turn k cpu calm none some) (tick_turn l cpu (due_so ∙ calm) nothing (subst IsSome (sym moment_so) some)) (idle_none k cpu none) (idle_none l cpu nothing)
+        passes Ticks (calm, none, some) tt (tick_turn k cpu calm none some) (tick_turn l cpu (due_so ∙ calm) nothing (subst IsSome (sym moment_so) some)) (idle_none k cpu none) (idle_none l cpu nothing)
         (tick_answers k cpu calm none some) (tick_answers l cpu (due_so ∙ calm) nothing (subst IsSome (sym moment_so) some))
 
     by_rank : (o : Option Rank) → chosen.rank ≡ o → due_on (run (boot a) x).times cpu ≡ None → HomeTurn revokes (run (boot a) x) (run (boot b) y) S P C cpu
@@ -381,8 +283,16 @@ home_turn revokes a b x y S P C T U cpu first second alike together home abroad 
     by_rank None is calm =
         by_moment (next_moment k.times cpu) refl calm (chosen.first ∙ ap (option_map (stamped k)) is) (chosen.second ∙ ap (option_map (stamped l)) is)
 
-    by_due : (o : Option Due) → due_on (run (boot a) x).times cpu ≡ o → HomeTurn revokes (run (boot a) x) (run (boot b) y) S P C cpu
-    by_due (Some what) is =
-        passes (Falls what) is (due_turn k cpu what is) (due_turn l cpu what (due_so ∙ is)) (due_nobody k cpu what is) (due_nobody l cpu what (due_so ∙ is))
+    falls : (what : Due) → due_on (run (boot a) x).times cpu ≡ Some what → IsWithin (run (boot a) x) (Of P) (Falls what) → HomeTurn revokes (run (boot a) x) (run (boot b) y) S P C cpu
+    falls what is its =
+        passes (Falls what) is its (due_turn k cpu what is) (due_turn l cpu what (due_so ∙ is)) (due_nobody k cpu what is) (due_nobody l cpu what (due_so ∙ is))
         (due_answers k cpu what is) (due_answers l cpu what (due_so ∙ is))
+
+    by_place : (n : ℕ) → due_on (run (boot a) x).times cpu ≡ Some (due.Alarm n) → (t : Bool) → P (alarm_sm (slice_get (run (boot a) x).times.alarms n)) ≡ t → HomeTurn revokes (run (boot a) x) (run (boot b) y) S P C cpu
+    by_place n is true its = falls (due.Alarm n) is its
+    by_place n is false out = rings n is out
+
+    by_due : (o : Option Due) → due_on (run (boot a) x).times cpu ≡ o → HomeTurn revokes (run (boot a) x) (run (boot b) y) S P C cpu
+    by_due (Some (due.Alarm n)) is = by_place n is (P (alarm_sm (slice_get k.times.alarms n))) refl
+    by_due (Some (due.Deadline ec)) is = falls (due.Deadline ec) is tt
     by_due None is = by_rank chosen.rank refl is

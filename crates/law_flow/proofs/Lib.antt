@@ -23,10 +23,12 @@ pub mod Timing
 pub mod Choosing
 pub mod Paying
 pub mod Telling
+pub mod Ringing
 pub mod Home
 pub mod Away
 pub mod Divided
 pub mod Second
+pub mod Ends
 pub mod Looking
 pub mod Meeting
 pub mod Deriving

@@ -368,7 +368,6 @@ module _ (k : KernelState) (shows : Shows k) where
           | inr its ↦ its
         ]
       ];
-      alarms = λ n a at c. no_alarm n a at;
       rings = λ n a at p. no_alarm n a at;
     };
     others = λ n pd cpu kind event is t c. (fits n (Ec pd cpu kind event) is).1 t c;

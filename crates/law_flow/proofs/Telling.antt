@@ -11,7 +11,7 @@ use Rattle.nova_model.specs.declared.event.Turn.TheVariants.{Stepped}
 use Rattle.law_forest.proofs.Actors.{chosen_answers}
 use Rattle.law_forest.proofs.Turning.{event_answered, event_at, event_in, none_taken, outcome}
 use Rattle.law_turns.proofs.Traces.{turning_on}
-use Rattle.law_flow.specs.Processors.{events_on, unnumbered_event}
+use Rattle.law_flow.specs.Processors.{events_on, unfound, unnumbered_event}
 
 -- the event of a turn by its answer, and of one who acts
 pub event_told : (k : KernelState) (cpu : ℕ) (e : Event) → answer_of (turn k cpu) ≡ Stepped e → event_at k cpu ≡ Some e
@@ -29,18 +29,25 @@ on_it k cpu = outcome (λ s o. IfSome o (λ e. e.cpu ≡ cpu)) k cpu (λ none. t
 abbrev on_these : (ℕ → Bool) → List Event → List Event
 on_these C events = filter (λ (e : Event). C e.cpu) events
 
--- of a trace the events of the side's processors begin with the event of such a turn
-pub told_here : (C : ℕ → Bool) (k : KernelState) (cpu : ℕ) (rest : List Event) → C cpu ≡ true → events_on C (in_front (event_at k cpu) rest) ≡ in_front (option_map unnumbered_event (event_at k cpu)) (events_on C rest)
-told_here C k cpu rest c = by_event (event_at k cpu) (on_it k cpu)
+-- the events of the side's processors, but for what alarms that are none of these find
+abbrev pub told_on : (ℕ → Bool) → (ℕ → Bool) → List Event → List Event
+told_on A C events = map (unfound A) (events_on C events)
+
+abbrev told_of : (ℕ → Bool) → Option Event → Option Event
+told_of A o = option_map (unfound A) (option_map unnumbered_event o)
+
+-- of a trace they begin with the event of such a turn
+pub told_here : (A C : ℕ → Bool) (k : KernelState) (cpu : ℕ) (rest : List Event) → C cpu ≡ true → told_on A C (in_front (event_at k cpu) rest) ≡ in_front (told_of A (event_at k cpu)) (told_on A C rest)
+told_here A C k cpu rest c = by_event (event_at k cpu) (on_it k cpu)
   where
-    by_event : (o : Option Event) → IfSome o (λ e. e.cpu ≡ cpu) → events_on C (in_front o rest) ≡ in_front (option_map unnumbered_event o) (events_on C rest)
+    by_event : (o : Option Event) → IfSome o (λ e. e.cpu ≡ cpu) → told_on A C (in_front o rest) ≡ in_front (told_of A o) (told_on A C rest)
     by_event None on = refl
-    by_event (Some e) on = ap (λ (t : Bool). map unnumbered_event (if t then e ∷ on_these C rest else on_these C rest)) (ap C on ∙ c)
+    by_event (Some e) on = ap (λ (t : Bool). map (unfound A) (map unnumbered_event (if t then e ∷ on_these C rest else on_these C rest))) (ap C on ∙ c)
 
 -- and leave out that of a turn elsewhere
-pub told_away : (C : ℕ → Bool) (k : KernelState) (cpu : ℕ) (rest : List Event) → C cpu ≡ false → events_on C (in_front (event_at k cpu) rest) ≡ events_on C rest
-told_away C k cpu rest c = by_event (event_at k cpu) (on_it k cpu)
+pub told_away : (A C : ℕ → Bool) (k : KernelState) (cpu : ℕ) (rest : List Event) → C cpu ≡ false → told_on A C (in_front (event_at k cpu) rest) ≡ told_on A C rest
+told_away A C k cpu rest c = by_event (event_at k cpu) (on_it k cpu)
   where
-    by_event : (o : Option Event) → IfSome o (λ e. e.cpu ≡ cpu) → events_on C (in_front o rest) ≡ events_on C rest
+    by_event : (o : Option Event) → IfSome o (λ e. e.cpu ≡ cpu) → told_on A C (in_front o rest) ≡ told_on A C rest
     by_event None on = refl
-    by_event (Some e) on = ap (λ (t : Bool). map unnumbered_event (if t then e ∷ on_these C rest else on_these C rest)) (ap C on ∙ c)
+    by_event (Some e) on = ap (λ (t : Bool). map (unfound A) (map unnumbered_event (if t then e ∷ on_these C rest else on_these C rest))) (ap C on ∙ c)

@@ -98,7 +98,8 @@ pub fn noninterference()
 /// blocked for good, and all of its are. In the first run, let it be at work from there on; it may revoke as in
 /// `noninterference`. If the turns of its processors come in the same order, however many turns of other processors come between them, then at the ends of
 /// both runs its part is the same, with clocks, deadlines, alarms and quanta, and so are all that it did and all events
-/// on its processors: whatever others are and do in each. On one processor the number of its turns is all.
+/// on its processors: whatever others are and do in each. On one processor the number of its turns is all. Alarms of its
+/// processors may ring at others' semaphores: of such a ring neither whom it wakes nor its status is said, of others all.
 pub fn noninterference_at_home()
     ensures { (revokes : Bool) (a b : Scenario) (before since turns others : List ℕ) (S T U P C : ℕ → Bool)
         → IsPartitioned (run (boot a) before) (Of S) (Of T) (Of P) → IsPartitioned (run (boot b) since) (Of S) (Of U) (Of P)

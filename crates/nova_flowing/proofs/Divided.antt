@@ -51,10 +51,8 @@ module _ (k : KernelState) (S T P C : ℕ → Bool) where
             second_is (S pd) (C cpu) (when_off (S pd && not (C cpu)) field.Contexts (Context n cpu) (none_left _ _ (at_off n (Ec pd cpu kind event) is))) s;
         schedules = λ n donor cpu priority quantum is m.
             second_is (is_member k S donor) (P n) (when_off (is_member k S donor && not (P n)) field.Schedules (AtObject n) (at_off n (Sc donor cpu priority quantum) is)) (member_on k S donor m);
-        alarms = λ n a is c.
-            second_is (C a.alarm.cpu) (P a.alarm.sm) (when_off (C a.alarm.cpu && not (P a.alarm.sm)) field.Alarms (at_source n a.alarm) (none_left _ _ (of_off n a is))) c;
         rings = λ n a is p.
-            second_is (P a.alarm.sm) (C a.alarm.cpu) (when_off (P a.alarm.sm && not (C a.alarm.cpu)) field.Rings (at_source n a.alarm) (none_right _ _ (of_off n a is))) p;
+            second_is (P a.alarm.sm) (C a.alarm.cpu) (when_off (P a.alarm.sm && not (C a.alarm.cpu)) field.Rings (at_source n a.alarm) (of_off n a is)) p;
       };
       others = λ n pd cpu kind event is t c.
           neither (T pd) (C cpu) (when_off (T pd && C cpu) field.Others (Context n cpu) (none_right _ _ (at_off n (Ec pd cpu kind event) is))) t c;
@@ -98,8 +96,7 @@ module _ (k : KernelState) (S T P C : ℕ → Bool) where
 
     rung : (n : ℕ) (b : Alarm) → (a : AlarmState) × (slice_get k.times.alarms n ≡ Some a) × (a.alarm ≡ b) → leak_of P C Divided (n, b) ≡ None
     rung n b a =
-        none_both _ _ (off_when _ field.Alarms (at_source n b) (subst (λ (x : Alarm). (C x.cpu && not (P x.sm)) ≡ false) a.2 (off_unless (C a.0.alarm.cpu) (P a.0.alarm.sm) (divided.has.alarms n a.0 a.1))))
-        (off_when _ field.Rings (at_source n b) (subst (λ (x : Alarm). (P x.sm && not (C x.cpu)) ≡ false) a.2 (off_unless (P a.0.alarm.sm) (C a.0.alarm.cpu) (divided.has.rings n a.0 a.1))))
+        off_when _ field.Rings (at_source n b) (subst (λ (x : Alarm). (P x.sm && not (C x.cpu)) ≡ false) a.2 (off_unless (P a.0.alarm.sm) (C a.0.alarm.cpu) (divided.has.rings n a.0 a.1)))
 
     pub divided_of_none : AllByRecursion (λ (e : ℕ × Alarm). leak_of P C Divided e ≡ None) (enumerate_from 0 (sources_of k))
     divided_of_none = all_from (λ (e : ℕ × Alarm). leak_of P C Divided e ≡ None) (enumerate_from 0 (sources_of k)) (λ e i.

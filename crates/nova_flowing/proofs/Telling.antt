@@ -4,7 +4,7 @@ use Rattle.std.specs.Prelude.{Bool}
 use Rattle.nova_model.specs.State.{KernelState}
 use Rattle.nova_flowing.specs.Lines.{verdict_at}
 use Rattle.nova_flowing.specs.Premises.{verdict_by}
-use Rattle.nova_flowing.specs.Tables.{home_by, home_table, others_table, own_table, part_table}
+use Rattle.nova_flowing.specs.Tables.{home_table, others_table, own_table, part_table}
 use Rattle.nova_flowing.specs.Tests.{is_in}
 use Rattle.nova_flowing.specs.declared.deciding.Verdict.{Verdict}
 
@@ -13,14 +13,14 @@ by_tables k own others part home = verdict_by k (is_in own) (is_in others) (is_i
 
 -- the verdict of a side, by tables that are its own
 pub verdict_same : (k : KernelState) (labels : List ℕ) (label : ℕ) (own others part home : List Bool) → own ≡ own_table labels label → others ≡ others_table labels label
-    → part ≡ part_table k (is_in (own_table labels label)) (home_by k labels label) → home ≡ home_table k (is_in (own_table labels label))
+    → part ≡ part_table k (is_in (own_table labels label)) → home ≡ home_table k (is_in (own_table labels label))
     → verdict_by k (is_in own) (is_in others) (is_in part) (is_in home) ≡ verdict_at k labels label
 unfolding by_tables
 verdict_same k labels label own others part home a b c d =
     ap (λ (t : List Bool). by_tables k t others part home) a
     ∙ ap (λ (t : List Bool). by_tables k (own_table labels label) t part home) b
     ∙ ap (λ (t : List Bool). by_tables k (own_table labels label) (others_table labels label) t home) c
-    ∙ ap (λ (t : List Bool). by_tables k (own_table labels label) (others_table labels label) (part_table k (is_in (own_table labels label)) (home_by k labels label)) t) d
+    ∙ ap (λ (t : List Bool). by_tables k (own_table labels label) (others_table labels label) (part_table k (is_in (own_table labels label))) t) d
 
 pub line_whole : (flow side verdict told before first second after : List ℕ) → first ≡ before ++ flow → second ≡ first ++ side → verdict ≡ told → after ≡ second ++ verdict → after ≡ before ++ (flow ++ (side ++ told))
 line_whole flow side verdict told before first second after one two same three =

@@ -102,7 +102,7 @@ abbrev pub at_source : ℕ → Alarm → Place
 at_source n a = Source n a.cpu a.sm
 
 abbrev pub leak_of : (ℕ → Bool) → (ℕ → Bool) → Premise → ℕ × Alarm → Option Leak
-leak_of P C Divided (n, a) = option_or (when (C a.cpu && not (P a.sm)) field.Alarms (at_source n a)) (when (P a.sm && not (C a.cpu)) field.Rings (at_source n a))
+leak_of P C Divided (n, a) = when (P a.sm && not (C a.cpu)) field.Rings (at_source n a)
 leak_of P C other (n, a) = None
 
 -- THE FIRST OF A PREMISE

@@ -4,9 +4,7 @@ use Rattle.std.specs.List.{enumerate_from, list_any, range_with_len}
 use Rattle.nova_objects.specs.declared.object.Object.{Object}
 use Rattle.nova_objects.specs.declared.object.Object.TheVariants.{Ec, Sm}
 use Rattle.nova_model.specs.State.{KernelState}
-use Rattle.nova_model.specs.declared.times.Alarm.{Alarm}
 use Rattle.nova_ties.specs.Ties.{is_another}
-use Rattle.nova_kernel.specs.Begun.{sources_of}
 use Rattle.nova_flowing.specs.Tests.{holds, is_in, is_owned, queues_of}
 
 -- the domains of a label, and those of the other sides
@@ -30,19 +28,16 @@ is_home k S cpu = list_any (is_on S cpu) k.objects
 abbrev pub home_table : KernelState → (ℕ → Bool) → List Bool
 home_table k S = map (is_home k S) (range_with_len 0 k.cpus)
 
--- its part of the objects is what is its own; and of semaphores those that it holds, at which one of it waits, or at which alarms of its processors ring
-abbrev pub rings_at : (ℕ → Bool) → ℕ → Alarm → Bool
-rings_at C sm a = C a.cpu && (a.sm == sm)
+-- its part of the objects is what is its own; and of semaphores those that it holds, or at which one of it waits
+abbrev pub is_semaphore_of : KernelState → (ℕ → Bool) → ℕ → Bool
+is_semaphore_of k S n = holds k.delegations.list S n || list_any (queues_of k S n) (enumerate_from 0 k.objects)
 
-abbrev pub is_semaphore_of : KernelState → (ℕ → Bool) → (ℕ → Bool) → ℕ → Bool
-is_semaphore_of k S C n = holds k.delegations.list S n || (list_any (queues_of k S n) (enumerate_from 0 k.objects) || list_any (rings_at C n) (sources_of k))
+abbrev pub is_part : KernelState → (ℕ → Bool) → ℕ × Object → Bool
+is_part k S (n, Sm) = is_semaphore_of k S n
+is_part k S (n, other) = is_owned k S n (Some other)
 
-abbrev pub is_part : KernelState → (ℕ → Bool) → (ℕ → Bool) → ℕ × Object → Bool
-is_part k S C (n, Sm) = is_semaphore_of k S C n
-is_part k S C (n, other) = is_owned k S n (Some other)
-
-abbrev pub part_table : KernelState → (ℕ → Bool) → (ℕ → Bool) → List Bool
-part_table k S C = map (is_part k S C) (enumerate_from 0 k.objects)
+abbrev pub part_table : KernelState → (ℕ → Bool) → List Bool
+part_table k S = map (is_part k S) (enumerate_from 0 k.objects)
 
 -- the four of a label
 abbrev pub own_by : List ℕ → ℕ → ℕ → Bool
@@ -55,4 +50,4 @@ abbrev pub home_by : KernelState → List ℕ → ℕ → ℕ → Bool
 home_by k labels label cpu = is_in (home_table k (own_by labels label)) cpu
 
 abbrev pub part_by : KernelState → List ℕ → ℕ → ℕ → Bool
-part_by k labels label n = is_in (part_table k (own_by labels label) (home_by k labels label)) n
+part_by k labels label n = is_in (part_table k (own_by labels label)) n

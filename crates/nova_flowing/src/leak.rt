@@ -58,8 +58,6 @@ pub enum Field {
     Contexts,
     /// `HasHome.schedules`: a scheduling context of the side's isn't of the part.
     Schedules,
-    /// `HasHome.alarms`: an alarm of a processor of the side's rings at a semaphore that isn't of the part.
-    Alarms,
     /// `HasHome.rings`: an alarm of another processor rings at a semaphore of the part.
     Rings,
     /// `IsDivided.others`: an execution context of the others' is on a processor of the side's.

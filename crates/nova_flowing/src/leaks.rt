@@ -333,7 +333,7 @@ fn leak_of(v: &Division, premise: Premise, n: u64, source: Alarm) -> Option<Leak
             };
             let home = is_in(&v.home, source.cpu);
             let part = is_in(&v.part, source.sm);
-            when(home && !part, Field::Alarms, place).or(when(part && !home, Field::Rings, place))
+            when(part && !home, Field::Rings, place)
         }
         _ => None,
     }

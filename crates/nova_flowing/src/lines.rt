@@ -42,7 +42,6 @@ fn field_word<'a>(field: Field) -> &'a str
         Field::Memory => "IsGuarded.memory",
         Field::Contexts => "HasHome.contexts",
         Field::Schedules => "HasHome.schedules",
-        Field::Alarms => "HasHome.alarms",
         Field::Rings => "HasHome.rings",
         Field::Others => "IsDivided.others",
         Field::Creates => "IsDivided.creates",

@@ -2,16 +2,15 @@
 ghost use Rattle.std.specs.Prelude.{◌≡◌, ◌≤◌, ◌||◌, ◌<◌, ◌^◌, IfOk, length};
 ghost use Rattle.std.specs.List.{enumerate_from, list_any};
 ghost use Rattle.nova_ties.specs.Ties.{is_another};
-ghost use Rattle.nova_kernel.specs.Begun.{sources_of};
 ghost use Rattle.nova_flowing.specs.Premises.{IsOf};
-ghost use Rattle.nova_flowing.specs.Tables.{home_by, home_table, is_home, is_label, is_on, is_part, is_semaphore_of, others_table, own_table, part_table, rings_at};
+ghost use Rattle.nova_flowing.specs.Tables.{home_table, is_home, is_label, is_on, is_part, is_semaphore_of, others_table, own_table, part_table};
 ghost use Rattle.nova_flowing.specs.Tests.{is_in};
 
 use crate::capabilities::holds;
 use crate::contexts::is_any_queued;
 use crate::division::Division;
 use crate::tables::{is_in, is_own};
-use nova_kernel::{Alarm, Derivation, Kernel, Object};
+use nova_kernel::{Derivation, Kernel, Object};
 use std::alloc::{AllocError, Global};
 
 fn own_table(alloc: Global, labels: &[u32], label: u32) -> Result<Vec<bool>, AllocError>
@@ -72,46 +71,21 @@ fn home_table(alloc: Global, kernel: &Kernel, own: &[bool]) -> Result<Vec<bool>,
     Ok(table)
 }
 
-fn rings_at(home: &[bool], sm: u32, source: Alarm) -> bool
-    ensures { result ≡ rings_at (is_in home.now) sm source }
-{
-    is_in(home, source.cpu) && source.sm == sm
-}
-
-fn is_rung(sources: &[Alarm], home: &[bool], sm: u32) -> bool
-    ensures { result ≡ list_any (rings_at (is_in home.now) sm) sources.now }
-{
-    sources.iter().any(|&source| rings_at(home, sm, source))
-}
-
 /// Whether the semaphore `n` is of a side's part.
-fn is_semaphore_of(
-    kernel: &Kernel,
-    list: &[Derivation],
-    own: &[bool],
-    home: &[bool],
-    n: u32,
-) -> bool
+fn is_semaphore_of(kernel: &Kernel, list: &[Derivation], own: &[bool], n: u32) -> bool
     requires list { list.now ≡ kernel.now.state.delegations.list }
-    ensures { result ≡ is_semaphore_of kernel.now.state (is_in own.now) (is_in home.now) n }
+    ensures { result ≡ is_semaphore_of kernel.now.state (is_in own.now) n }
 {
-    holds(list, own, n) || is_any_queued(kernel, own, n) || is_rung(kernel.sources(), home, n)
+    holds(list, own, n) || is_any_queued(kernel, own, n)
 }
 
 /// Whether `object` is of a side's part.
-fn is_part(
-    kernel: &Kernel,
-    list: &[Derivation],
-    own: &[bool],
-    home: &[bool],
-    n: u32,
-    object: Object,
-) -> bool
+fn is_part(kernel: &Kernel, list: &[Derivation], own: &[bool], n: u32, object: Object) -> bool
     requires list { list.now ≡ kernel.now.state.delegations.list }
-    ensures { result ≡ is_part kernel.now.state (is_in own.now) (is_in home.now) (n, object) }
+    ensures { result ≡ is_part kernel.now.state (is_in own.now) (n, object) }
 {
     match object {
-        Object::Sm => is_semaphore_of(kernel, list, own, home, n),
+        Object::Sm => is_semaphore_of(kernel, list, own, n),
         _ => is_own(kernel, own, n, object),
     }
 }
@@ -121,21 +95,20 @@ fn part_table(
     kernel: &Kernel,
     list: &[Derivation],
     own: &[bool],
-    home: &[bool],
 ) -> Result<Vec<bool>, AllocError>
     requires list { list.now ≡ kernel.now.state.delegations.list }
-    ensures { IfOk result (λ table. table.items ≡ part_table kernel.now.state (is_in own.now) (is_in home.now)) }
+    ensures { IfOk result (λ table. table.items ≡ part_table kernel.now.state (is_in own.now)) }
 {
     let mut table = Vec::new(alloc);
     for (i, object) in kernel.objects().iter().enumerate() {
-        table.push(is_part(kernel, list, own, home, i as u32, *object))?;
+        table.push(is_part(kernel, list, own, i as u32, *object))?;
     }
     Ok(table)
 }
 
 /// The side of `label` among those of `labels`, the labels of the domains of `kernel` by number. The others are the domains of other sides; its
-/// processors are those with an execution context of its, and its part of the objects is what is its own, with the semaphores that it holds, at which
-/// one of it waits, or at which sources of its processors ring.
+/// processors are those with an execution context of its, and its part of the objects is what is its own, with the semaphores that it holds,
+/// or at which one of it waits.
 pub fn division_of(
     alloc: Global,
     kernel: &Kernel,
@@ -147,14 +120,14 @@ pub fn division_of(
     requires labels { length labels.now ≤ length kernel.now.state.objects }
     ensures own { IfOk result (λ v. v.own.items ≡ own_table labels.now label) }
     ensures others { IfOk result (λ v. v.others.items ≡ others_table labels.now label) }
-    ensures part { IfOk result (λ v. v.part.items ≡ part_table kernel.now.state (is_in (own_table labels.now label)) (home_by kernel.now.state labels.now label)) }
+    ensures part { IfOk result (λ v. v.part.items ≡ part_table kernel.now.state (is_in (own_table labels.now label))) }
     ensures home { IfOk result (λ v. v.home.items ≡ home_table kernel.now.state (is_in (own_table labels.now label))) }
     ensures of { IfOk result (IsOf kernel.now.state) }
 {
     let own = own_table(alloc, labels, label)?;
     let others = others_table(alloc, labels, label)?;
     let home = home_table(alloc, kernel, &own)?;
-    let part = part_table(alloc, kernel, list, &own, &home)?;
+    let part = part_table(alloc, kernel, list, &own)?;
     Ok(Division {
         own,
         others,

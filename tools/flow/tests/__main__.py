@@ -17,7 +17,7 @@ TOOL = TOP / "tools" / "flow"
 sys.path.insert(0, str(TOOL))
 
 from leaks import LEAKS  # noqa: E402
-from parts import difference, free_part, part  # noqa: E402
+from parts import difference, free_part, part, told  # noqa: E402
 from premises import at_work, broken, revoking_within  # noqa: E402
 from scenarios import Fixed, SetUp, word  # noqa: E402
 
@@ -60,6 +60,10 @@ class Parts(unittest.TestCase):
     def test_ranges_are_told_by_what_they_give(self) -> None:
         renumbered = "".join(f"{' '.join(['cap', '99', '-'] + line.split()[3:])}\n" if line.startswith("cap") else f"{line}\n" for line in self.report.splitlines())
         self.assertIsNone(difference(part(self.report), part(renumbered)))
+
+    def test_of_a_source_that_rings_elsewhere_is_told_that_it_rang(self) -> None:
+        event = ["1", "22", "irq", "1", "3"]
+        self.assertEqual([told(event, {"1"}), told(event, {"2"})], [["1", "0", "irq", "1", "0"], event])
 
     def test_a_long_line_is_shown_where_it_differs(self) -> None:
         first, second = [["console", "0", "0" * 400 + tail] for tail in ("12", "13")]

@@ -6,4 +6,4 @@ use Rattle.nova_flowing.proofs.sides.part_table.Given as goal
 
 abbrev pub invariant-loop-i : goal.invariant-loop-i
 invariant-loop-i l =
-    l.table.items ++ map (is_part l.kernel.state (is_in l.own) (is_in l.home)) (enumerate_from l.i (drop l.i l.object-items)) ≡ part_table l.kernel.state (is_in l.own) (is_in l.home)
+    l.table.items ++ map (is_part l.kernel.state (is_in l.own)) (enumerate_from l.i (drop l.i l.object-items)) ≡ part_table l.kernel.state (is_in l.own)
