@@ -9,3 +9,4 @@ pub mod Paying
 pub mod Given
 pub mod Turns
 pub mod Spinning
+pub mod Telling

@@ -6,7 +6,7 @@ use Rattle.std.proofs.lemmas.List.{length-map}
 use Rattle.nova_objects.specs.declared.object.Object.{Object}
 use Rattle.nova_model.specs.Boot.{Scenario, boot}
 use Rattle.nova_model.specs.Capabilities.{is_sc}
-use Rattle.nova_model.specs.Choice.{Candidate, choice, in_front, is_idle, is_quiet, next_to_act}
+use Rattle.nova_model.specs.Choice.{Candidate, choice, in_front, is_idle, is_quiet, next_to_act, unless_due}
 use Rattle.nova_model.specs.Creation.{object_of}
 use Rattle.nova_model.specs.Deeds.{deed}
 use Rattle.nova_model.specs.Runs.{after, run, trace}
@@ -191,10 +191,25 @@ turns_are k l cpu alike = by_due (due_on k.times cpu) refl
         let too = sym same_due ∙ is in
         Pass (Falls what) (due_turn k cpu what is) (due_turn l cpu what too) (due_answers k cpu what is) (due_answers l cpu what too)
 
+-- the context that acts next is the same
+pub actors_alike : (k l : KernelState) (cpu : ℕ) → IsAlike k l → option_map (λ (c : Candidate). c.actor) (next_to_act k cpu) ≡ option_map (λ (c : Candidate). c.actor) (next_to_act l cpu)
+unfolding next_to_act
+actors_alike k l cpu alike =
+    ap (λ (o : Option Due). option_map (λ (c : Candidate). c.actor) (unless_due o (choice k cpu))) (due_alike k.times l.times cpu alike.times)
+    ∙ by_due (due_on l.times cpu) (choice k cpu) (choice l cpu) (choice_paired k l cpu alike)
+  where
+    by_due : (o : Option Due) (c d : Option Candidate) → Both (AreSameBut (uncounted k) k.budgets l.budgets cpu) c d →
+        option_map (λ (x : Candidate). x.actor) (unless_due o c) ≡ option_map (λ (x : Candidate). x.actor) (unless_due o d)
+    by_due (Some what) c d pair = refl
+    by_due None None None pair = refl
+    by_due None None (Some d) pair = absurd pair
+    by_due None (Some c) None pair = absurd pair
+    by_due None (Some c) (Some d) pair = ap Some (sym pair.actor)
+
 quiet_deed : (k : KernelState) (cpu : ℕ) (c : Candidate) → next_to_act k cpu ≡ Some c → TellsNoTicks k cpu → tells_ticks (deed k c.actor) ≡ false
 quiet_deed k cpu c next quiet = subst (λ (o : Option Candidate). IfSome o (λ (x : Candidate). tells_ticks (deed k x.actor) ≡ false)) next quiet
 
-answers : (k : KernelState) (cpu : ℕ) (c : Candidate) → next_to_act k cpu ≡ Some c → answer_of (turn k cpu) ≡ Stepped (event_of cpu c (deed k c.actor))
+pub answers : (k : KernelState) (cpu : ℕ) (c : Candidate) → next_to_act k cpu ≡ Some c → answer_of (turn k cpu) ≡ Stepped (event_of cpu c (deed k c.actor))
 answers k cpu c next = elim (comes k cpu) [
   | Idles none moment same answer ↦ absurd (let both : None ≡ Some c = sym (idle_none k cpu none) ∙ next in cc)
   | Takes t e is state answer ↦ elim is [

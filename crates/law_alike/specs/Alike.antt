@@ -11,6 +11,10 @@ use Rattle.nova_model.specs.State.{KernelState, budget_at, deadline_of}
 use Rattle.nova_model.specs.Times.{Times, clock, goes_on}
 use Rattle.nova_model.specs.declared.deed.Deed.{Deed}
 use Rattle.nova_model.specs.declared.deed.Deed.TheVariants.{Tells}
+use Rattle.nova_model.specs.declared.event.EventKind.{EventKind}
+use Rattle.nova_model.specs.declared.event.EventKind.TheVariants as event
+use Rattle.nova_model.specs.declared.event.Turn.{Turn}
+use Rattle.nova_model.specs.declared.event.Turn.TheVariants.{Idle, Stepped}
 use Rattle.nova_model.specs.declared.times.AlarmState.{AlarmState}
 use Rattle.nova_model.specs.declared.times.Deadline.{Deadline}
 use Rattle.law_turns.specs.Budgets.{left_in, stamp_in}
@@ -89,3 +93,12 @@ TellsNoTicks k cpu = IfSome (next_to_act k cpu) (λ c. tells_ticks (deed k c.act
 abbrev pub TellNoTicks : KernelState → List CpuId → Type 0
 TellNoTicks k [] = Unit {0}
 TellNoTicks k (cpu ∷ order) = TellsNoTicks k cpu × TellNoTicks (after k cpu) order
+
+-- a turn's event is an answer to the hypercall that tells them, which may be a refusal
+abbrev pub answers_ticks : EventKind → ℕ → Bool
+answers_ticks event.Answer call = call == SC_CTRL
+answers_ticks other call = false
+
+abbrev pub may_tell_ticks : Turn → Bool
+may_tell_ticks (Stepped e) = answers_ticks e.kind e.a
+may_tell_ticks Idle = false

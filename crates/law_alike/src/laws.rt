@@ -1,11 +1,14 @@
-ghost use Rattle.std.specs.Prelude.{◌≡◌, ◌≢◌, ℕ, List, replicate};
+ghost use Rattle.std.specs.Prelude.{◌≡◌, ◌≢◌, ℕ, ◌==◌, false, List, option_map, replicate};
+ghost use Rattle.rv_model.specs.Registers.{reg};
+ghost use Rattle.nova_calls.specs.declared.numbers.TheConstants.{SC_CTRL};
 ghost use Rattle.nova_model.specs.Boot.{Scenario, boot};
-ghost use Rattle.nova_model.specs.Choice.{choose, is_quiet};
+ghost use Rattle.nova_model.specs.Choice.{Candidate, choose, is_quiet, next_to_act};
+ghost use Rattle.nova_model.specs.Deeds.{deed};
 ghost use Rattle.nova_model.specs.Runs.{after, run, trace};
-ghost use Rattle.nova_model.specs.State.{KernelState, Stirs};
+ghost use Rattle.nova_model.specs.State.{KernelState, Stirs, context};
 ghost use Rattle.nova_model.specs.Turn.{answer_of, turn};
 ghost use Rattle.law_turns.specs.Keeping.{IsKept};
-ghost use Rattle.law_alike.specs.Alike.{IsAlike, AreStampsGiven, TellNoTicks, TellsNoTicks, stamp};
+ghost use Rattle.law_alike.specs.Alike.{IsAlike, AreStampsGiven, TellNoTicks, TellsNoTicks, may_tell_ticks, stamp, tells_ticks};
 ghost use Rattle.law_alike.specs.Examples.{spinning};
 
 /// Each state is alike to itself, also with other counts of turns and stir counts; states are alike both ways, and what is alike to one state is alike
@@ -17,11 +20,13 @@ pub fn alikeness_is_an_equivalence()
     ensures transitive { (k l m : KernelState) → IsAlike k l → IsAlike l m → IsAlike k m }
 {}
 
-/// In alike states a processor chooses the same scheduling context, and its turn has the same event and leaves alike states, unless it tells ticks;
+/// In alike states a processor chooses the same scheduling context, the same execution context acts next, and the turn has the same event and leaves alike states, unless it tells ticks;
 /// and so it is with turns of any order. States after turns are alike where tables went with objects and stamps were below the next, as they are in
 /// whatever turns leave of a boot state, and after a turn where they were before: so what orders lead to may be taken for one where it is alike.
 pub fn alike_states_have_alike_turns()
     ensures chosen { (k l : KernelState) (cpu : ℕ) → IsAlike k l → choose k cpu ≡ choose l cpu }
+    ensures actors { (k l : KernelState) (cpu : ℕ) → IsAlike k l
+        → option_map (λ (c : Candidate). c.actor) (next_to_act k cpu) ≡ option_map (λ (c : Candidate). c.actor) (next_to_act l cpu) }
     ensures events { (k l : KernelState) (cpu : ℕ) → IsAlike k l → TellsNoTicks k cpu → answer_of (turn k cpu) ≡ answer_of (turn l cpu) }
     ensures turns { (k l : KernelState) (cpu : ℕ)
         → IsKept k → IsKept l → AreStampsGiven k → AreStampsGiven l
@@ -60,4 +65,11 @@ pub fn alike_states_are_as_one()
 pub fn a_spinning_run_stays_alike()
     ensures alike { (n : ℕ) → IsAlike (run (boot spinning) (replicate n 0)) (boot spinning) }
     ensures differ { stamp (after (boot spinning) 0) 2 ≢ stamp (boot spinning) 2 }
+{}
+
+/// Ticks are told by one hypercall: an execution context whose x17 hasn't its number tells none, and neither does a turn whose event isn't an answer
+/// to it.
+pub fn ticks_are_told_by_one_call()
+    ensures number { (k : KernelState) (ec : ℕ) → (reg (context k ec).regs 17 == SC_CTRL) ≡ false → tells_ticks (deed k ec) ≡ false }
+    ensures event { (k : KernelState) (cpu : ℕ) → may_tell_ticks (answer_of (turn k cpu)) ≡ false → TellsNoTicks k cpu }
 {}

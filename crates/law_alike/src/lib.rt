@@ -6,5 +6,5 @@ mod laws;
 
 pub use laws::{
     a_spinning_run_stays_alike, alike_states_are_as_one, alike_states_have_alike_turns,
-    alikeness_is_an_equivalence,
+    alikeness_is_an_equivalence, ticks_are_told_by_one_call,
 };

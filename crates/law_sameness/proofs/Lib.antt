@@ -1,3 +1,4 @@
 pub mod Zero
 pub mod Counted
 pub mod Same
+pub mod Alike

@@ -17,13 +17,13 @@ use Rattle.law_turns.specs.Moments.{HasEntries}
 use Rattle.law_turns.specs.Tables.{HasTables}
 use Rattle.law_turns.specs.Waiting.{IsAwaiting}
 use Rattle.law_turns.proofs.Tags.{tags_length}
-use Rattle.law_sameness.specs.Counts.{Counts, counts_of, stamp_in}
-use Rattle.law_sameness.specs.States.{AreReadAlike, IsAtRest, IsSameAt, count_in, is_guest_in}
+use Rattle.law_sameness.specs.Counts.{Counts, stamp_in}
+use Rattle.law_sameness.specs.States.{AreCountedAlike, AreReadAlike, IsAtRest, IsSameAt, count_in, is_guest_in}
 use Rattle.law_turns.specs.Keeping.{IsKept}
 
 -- TABLES
 
-same_tables : {T : Type 0} (xs ys : List (Option T)) → length xs ≡ length ys → ((n : ℕ) → n < length xs → entry (slice_get xs n) ≡ entry (slice_get ys n)) → xs ≡ ys
+pub same_tables : {T : Type 0} (xs ys : List (Option T)) → length xs ≡ length ys → ((n : ℕ) → n < length xs → entry (slice_get xs n) ≡ entry (slice_get ys n)) → xs ≡ ys
 same_tables [] [] long each = refl
 same_tables [] (y ∷ ys) long each = absurd (omega (arith, long))
 same_tables (x ∷ xs) [] long each = absurd (omega (arith, long))
@@ -33,10 +33,10 @@ same_tables (x ∷ xs) (y ∷ ys) long each =
 
 -- LENGTHS
 
-table_length : {T : Type 0} (xs : List (Option T)) (is : Object → Bool) (os : List Object) → map is_some xs ≡ map is os → length xs ≡ length os
+pub table_length : {T : Type 0} (xs : List (Option T)) (is : Object → Bool) (os : List Object) → map is_some xs ≡ map is os → length xs ≡ length os
 table_length xs is os same = sym (length-map xs is_some) ∙ ap length same ∙ length-map os is
 
-contexts_length : (k : KernelState) → HasTables k → length k.contexts ≡ length k.objects
+pub contexts_length : (k : KernelState) → HasTables k → length k.contexts ≡ length k.objects
 contexts_length k tables = sym (length-map k.contexts _) ∙ ap length tables.contexts ∙ tags_length 0 k.objects
 
 -- BUDGETS
@@ -144,7 +144,7 @@ built delegations_list delegations_next objects contexts messages transfers budg
   times = record { clocks = times_clocks; deadlines = times_deadlines; alarms = times_alarms };
 }
 
-all_parts : (a b : KernelState) → a.delegations.list ≡ b.delegations.list → a.delegations.next ≡ b.delegations.next → a.objects ≡ b.objects → a.contexts ≡ b.contexts → a.messages ≡ b.messages → a.transfers ≡ b.transfers → a.budgets ≡ b.budgets → a.identifiers ≡ b.identifiers → a.semaphores ≡ b.semaphores → a.memory.ram ≡ b.memory.ram → a.memory.log ≡ b.memory.log → a.next_stamp ≡ b.next_stamp → a.turns ≡ b.turns → a.cpus ≡ b.cpus → a.consoles ≡ b.consoles → a.stirs.guests ≡ b.stirs.guests → a.stirs.processors ≡ b.stirs.processors → a.times.clocks ≡ b.times.clocks → a.times.deadlines ≡ b.times.deadlines → a.times.alarms ≡ b.times.alarms → a ≡ b
+pub all_parts : (a b : KernelState) → a.delegations.list ≡ b.delegations.list → a.delegations.next ≡ b.delegations.next → a.objects ≡ b.objects → a.contexts ≡ b.contexts → a.messages ≡ b.messages → a.transfers ≡ b.transfers → a.budgets ≡ b.budgets → a.identifiers ≡ b.identifiers → a.semaphores ≡ b.semaphores → a.memory.ram ≡ b.memory.ram → a.memory.log ≡ b.memory.log → a.next_stamp ≡ b.next_stamp → a.turns ≡ b.turns → a.cpus ≡ b.cpus → a.consoles ≡ b.consoles → a.stirs.guests ≡ b.stirs.guests → a.stirs.processors ≡ b.stirs.processors → a.times.clocks ≡ b.times.clocks → a.times.deadlines ≡ b.times.deadlines → a.times.alarms ≡ b.times.alarms → a ≡ b
 all_parts a b s0 s1 s2 s3 s4 s5 s6 s7 s8 s9 s10 s11 s12 s13 s14 s15 s16 s17 s18 s19 =
     ap (λ (x : List Derivation). built x a.delegations.next a.objects a.contexts a.messages a.transfers a.budgets a.identifiers a.semaphores a.memory.ram a.memory.log a.next_stamp a.turns a.cpus a.consoles a.stirs.guests a.stirs.processors a.times.clocks a.times.deadlines a.times.alarms) s0
     ∙ ap (λ (x : ℕ). built b.delegations.list x a.objects a.contexts a.messages a.transfers a.budgets a.identifiers a.semaphores a.memory.ram a.memory.log a.next_stamp a.turns a.cpus a.consoles a.stirs.guests a.stirs.processors a.times.clocks a.times.deadlines a.times.alarms) s1
@@ -167,65 +167,51 @@ all_parts a b s0 s1 s2 s3 s4 s5 s6 s7 s8 s9 s10 s11 s12 s13 s14 s15 s16 s17 s18 
     ∙ ap (λ (x : List (Option Deadline)). built b.delegations.list b.delegations.next b.objects b.contexts b.messages b.transfers b.budgets b.identifiers b.semaphores b.memory.ram b.memory.log b.next_stamp b.turns b.cpus b.consoles b.stirs.guests b.stirs.processors b.times.clocks x a.times.alarms) s18
     ∙ ap (λ (x : List AlarmState). built b.delegations.list b.delegations.next b.objects b.contexts b.messages b.transfers b.budgets b.identifiers b.semaphores b.memory.ram b.memory.log b.next_stamp b.turns b.cpus b.consoles b.stirs.guests b.stirs.processors b.times.clocks b.times.deadlines x) s19
 
-pub same_state : (a b : KernelState) → ((t : Times) (cpu : ℕ) → (next_entry t cpu ≡ None) ↔ (entries t cpu ≡ [])) → ((t : Times) (cpu : ℕ) → HasEntries t cpu) →
-    IsKept a → IsKept b → a.stirs.processors ≡ a.times.clocks → b.stirs.processors ≡ b.times.clocks → IsAtRest a → IsAtRest b → counts_of a ≡ counts_of b → AreReadAlike a b → a ≡ b
-same_state a b none all v w one other rest rests counts alike =
-    all_parts a b alike.derivations (ap (λ (c : Counts). c.next_id) counts) objects contexts messages transfers budgets identifiers semaphores alike.ram alike.log
-    (ap (λ (c : Counts). c.next_stamp) counts) alike.turns alike.cpus alike.consoles guests (one ∙ clocks ∙ sym other) clocks deadlines (rest.alarms ∙ sym rests.alarms)
-  where
-    clocks : a.times.clocks ≡ b.times.clocks
-    clocks = ap (λ (c : Counts). c.clocks) counts
+-- WHAT IS READ
 
+-- tables of which all that is read is the same, and nothing is to come at deadlines
+pub record AreTablesSame (a b : KernelState) : Type 0 where
+  pub contexts : a.contexts ≡ b.contexts
+  pub messages : a.messages ≡ b.messages
+  pub transfers : a.transfers ≡ b.transfers
+  pub identifiers : a.identifiers ≡ b.identifiers
+  pub semaphores : a.semaphores ≡ b.semaphores
+  pub first : (n : ℕ) → entry (slice_get a.times.deadlines n) ≡ None
+  pub second : (n : ℕ) → entry (slice_get b.times.deadlines n) ≡ None
+
+pub tables_same : (a b : KernelState) → ((t : Times) (cpu : ℕ) → (next_entry t cpu ≡ None) ↔ (entries t cpu ≡ [])) → ((t : Times) (cpu : ℕ) → HasEntries t cpu) →
+    IsKept a → IsKept b → IsAtRest a → IsAtRest b → AreReadAlike a b → AreTablesSame a b
+tables_same a b none all v w rest rests alike = record {
+  contexts =
+      let la = contexts_length a x in let lb = contexts_length b y in
+      same_tables a.contexts b.contexts (la ∙ long ∙ sym lb) (λ n less. (each n (omega (arith, less, la))).context);
+  messages =
+      let la = table_length a.messages _ a.objects x.messages in let lb = table_length b.messages _ b.objects y.messages in
+      same_tables a.messages b.messages (la ∙ long ∙ sym lb) (λ n less. (each n (omega (arith, less, la))).words);
+  transfers =
+      let la = table_length a.transfers _ a.objects x.transfers in let lb = table_length b.transfers _ b.objects y.transfers in
+      same_tables a.transfers b.transfers (la ∙ long ∙ sym lb) (λ n less. (each n (omega (arith, less, la))).transfer);
+  identifiers =
+      let la = table_length a.identifiers _ a.objects x.identifiers in let lb = table_length b.identifiers _ b.objects y.identifiers in
+      same_tables a.identifiers b.identifiers (la ∙ long ∙ sym lb) (λ n less. (each n (omega (arith, less, la))).identifier);
+  semaphores =
+      let la = table_length a.semaphores _ a.objects x.semaphores in let lb = table_length b.semaphores _ b.objects y.semaphores in
+      same_tables a.semaphores b.semaphores (la ∙ long ∙ sym lb) (λ n less. (each n (omega (arith, less, la))).semaphore);
+  first = no_deadline a v none all rest (λ m more. (each m more).processor);
+  second = no_deadline b w none all rests other_on;
+}
+  where
     x : HasTables a
     x = v.tables
 
     y : HasTables b
     y = w.tables
 
-    objects : a.objects ≡ b.objects
-    objects = alike.objects
-
     each : (n : ℕ) → n < length a.objects → IsSameAt a b n
     each = alike.each
 
     long : length a.objects ≡ length b.objects
-    long = ap length objects
-
-    contexts : a.contexts ≡ b.contexts
-    contexts =
-        let la = contexts_length a x in let lb = contexts_length b y in
-        same_tables a.contexts b.contexts (la ∙ long ∙ sym lb) (λ n less. (each n (omega (arith, less, la))).context)
-
-    messages : a.messages ≡ b.messages
-    messages =
-        let la = table_length a.messages _ a.objects x.messages in let lb = table_length b.messages _ b.objects y.messages in
-        same_tables a.messages b.messages (la ∙ long ∙ sym lb) (λ n less. (each n (omega (arith, less, la))).words)
-
-    transfers : a.transfers ≡ b.transfers
-    transfers =
-        let la = table_length a.transfers _ a.objects x.transfers in let lb = table_length b.transfers _ b.objects y.transfers in
-        same_tables a.transfers b.transfers (la ∙ long ∙ sym lb) (λ n less. (each n (omega (arith, less, la))).transfer)
-
-    identifiers : a.identifiers ≡ b.identifiers
-    identifiers =
-        let la = table_length a.identifiers _ a.objects x.identifiers in let lb = table_length b.identifiers _ b.objects y.identifiers in
-        same_tables a.identifiers b.identifiers (la ∙ long ∙ sym lb) (λ n less. (each n (omega (arith, less, la))).identifier)
-
-    semaphores : a.semaphores ≡ b.semaphores
-    semaphores =
-        let la = table_length a.semaphores _ a.objects x.semaphores in let lb = table_length b.semaphores _ b.objects y.semaphores in
-        same_tables a.semaphores b.semaphores (la ∙ long ∙ sym lb) (λ n less. (each n (omega (arith, less, la))).semaphore)
-
-    budgets : a.budgets ≡ b.budgets
-    budgets =
-        let la = table_length a.budgets _ a.objects x.budgets in
-        same_budgets a.budgets b.budgets (ap (λ (c : Counts). c.stamps) counts)
-        (λ n less. (each n (omega (arith, less, la))).ticks) (λ n less. (each n (omega (arith, less, la))).left)
-
-    guests : a.stirs.guests ≡ b.stirs.guests
-    guests =
-        same_guests a.stirs.guests b.stirs.guests a.objects x.guests (subst (λ (os : List Object). map is_some b.stirs.guests ≡ map is_vcpu os) (sym objects) y.guests)
-        (λ n less. (each n less).stirs)
+    long = ap length alike.objects
 
     other_on : (n : ℕ) → n < length b.objects → IfSome (context_at b n) (λ (z : EcState). z.cpu < b.cpus)
     other_on n less =
@@ -233,7 +219,39 @@ same_state a b none all v w one other rest rests counts alike =
         subst (λ (c : ℕ). IfSome (context_at b n) (λ (z : EcState). z.cpu < c)) alike.cpus
         (subst (λ (o : Option EcState). IfSome o (λ (z : EcState). z.cpu < a.cpus)) here.context here.processor)
 
+-- AND WHAT IS COUNTED
+
+pub same_state : (a b : KernelState) → ((t : Times) (cpu : ℕ) → (next_entry t cpu ≡ None) ↔ (entries t cpu ≡ [])) → ((t : Times) (cpu : ℕ) → HasEntries t cpu) →
+    IsKept a → IsKept b → a.stirs.processors ≡ a.times.clocks → b.stirs.processors ≡ b.times.clocks → IsAtRest a → IsAtRest b → AreReadAlike a b → AreCountedAlike a b → a ≡ b
+same_state a b none all v w one other rest rests alike counted =
+    all_parts a b alike.derivations (ap (λ (c : Counts). c.next_id) counted.counts) alike.objects t.contexts t.messages t.transfers budgets t.identifiers t.semaphores alike.ram alike.log
+    (ap (λ (c : Counts). c.next_stamp) counted.counts) counted.turns alike.cpus alike.consoles guests (one ∙ clocks ∙ sym other) clocks deadlines (rest.alarms ∙ sym rests.alarms)
+  where
+    t : AreTablesSame a b
+    t = tables_same a b none all v w rest rests alike
+
+    clocks : a.times.clocks ≡ b.times.clocks
+    clocks = ap (λ (c : Counts). c.clocks) counted.counts
+
+    x : HasTables a
+    x = v.tables
+
+    y : HasTables b
+    y = w.tables
+
+    long : length a.objects ≡ length b.objects
+    long = ap length alike.objects
+
+    budgets : a.budgets ≡ b.budgets
+    budgets =
+        let la = table_length a.budgets _ a.objects x.budgets in
+        same_budgets a.budgets b.budgets (ap (λ (c : Counts). c.stamps) counted.counts)
+        (λ n less. (counted.each n (omega (arith, less, la))).ticks) (λ n less. (alike.each n (omega (arith, less, la))).left)
+
+    guests : a.stirs.guests ≡ b.stirs.guests
+    guests =
+        same_guests a.stirs.guests b.stirs.guests a.objects x.guests (subst (λ (os : List Object). map is_some b.stirs.guests ≡ map is_vcpu os) (sym alike.objects) y.guests)
+        (λ n less. (counted.each n less).stirs)
+
     deadlines : a.times.deadlines ≡ b.times.deadlines
-    deadlines =
-        same_tables a.times.deadlines b.times.deadlines (x.deadlines ∙ long ∙ sym y.deadlines)
-        (λ n less. no_deadline a v none all rest (λ m more. (each m more).processor) n ∙ sym (no_deadline b w none all rests other_on n))
+    deadlines = same_tables a.times.deadlines b.times.deadlines (x.deadlines ∙ long ∙ sym y.deadlines) (λ n less. t.first n ∙ sym (t.second n))

@@ -6,8 +6,9 @@ ghost use Rattle.nova_model.specs.Turn.{answer_of, turn};
 ghost use Rattle.nova_model.specs.declared.event.Event.{Event};
 ghost use Rattle.nova_model.specs.declared.event.Turn.TheVariants.{Stepped};
 ghost use Rattle.law_turns.specs.Keeping.{IsKept};
+ghost use Rattle.law_alike.specs.Alike.{IsAlike};
 ghost use Rattle.law_sameness.specs.Counts.{IsFresh, counts_after, counts_of};
-ghost use Rattle.law_sameness.specs.States.{AreReadAlike, AreZero, IsAtRest};
+ghost use Rattle.law_sameness.specs.States.{AreCountedAlike, AreInStep, AreReadAlike, AreZero, IsAtRest};
 
 /// The clocks of processors, the stamps of scheduling contexts, the next stamp and the next derivation's id begin as a kernel's objects and
 /// consoles tell, and each turn changes them as its event, the object that it makes and the quantum that was left tell. Both counts of a
@@ -29,15 +30,28 @@ pub fn x0_is_always_zero()
 {}
 
 /// Two states in which tables go with objects, both counts of each processor's turns are the same, and nothing is to come are the same where all that
-/// calls of a kernel read, and what is counted beside it, is the same.
+/// calls of a kernel read, and all that is counted, is the same.
 pub fn states_that_are_read_and_counted_alike_are_the_same()
     ensures { (a b : KernelState)
         → IsKept a → IsKept b
         → a.stirs.processors ≡ a.times.clocks → b.stirs.processors ≡ b.times.clocks
         → IsAtRest a → IsAtRest b
-        → counts_of a ≡ counts_of b
         → AreReadAlike a b
+        → AreCountedAlike a b
         → a ≡ b }
+{
+    law_turns::the_first_that_is_to_come_is_due();
+}
+
+/// Two states in which tables go with objects and nothing is to come are alike where all that calls of a kernel read but for counts is the same, the
+/// next derivation has the same id, and of any two scheduling contexts that compete the same one has the lesser stamp.
+pub fn states_that_are_read_alike_and_in_step_are_alike()
+    ensures { (a b : KernelState)
+        → IsKept a → IsKept b
+        → IsAtRest a → IsAtRest b
+        → AreReadAlike a b
+        → AreInStep a.objects (counts_of a) (counts_of b)
+        → IsAlike a b }
 {
     law_turns::the_first_that_is_to_come_is_due();
 }

@@ -1,15 +1,18 @@
 -- What is told of what a search for a state found.
-use Rattle.std.proofs.Common.{◌≡◌, ◌∙◌, ◌+◌, ◌<◌, ℕ, List, refl, ap, subst, length, arith}
-use Rattle.std.specs.Prelude.{Option, Some, None}
+use Rattle.std.proofs.Common.{◌≡◌, ◌∙◌, ◌+◌, ◌<◌, ℕ, List, refl, ap, subst, sym, length, arith}
+use Rattle.std.specs.Prelude.{false, Option, Some, None}
 use Rattle.std.proofs.lemmas.List.{length-map}
 use Rattle.nova_model.specs.Runs.{run}
 use Rattle.nova_model.specs.State.{KernelState}
 use Rattle.nova_order.specs.Blocks.{IsOrder, turns}
 use Rattle.nova_order.specs.declared.block.Block.{Block}
+use Rattle.law_alike.specs.Alike.{IsAlike}
+use Rattle.nova_search.specs.Merged.{HasOne}
 use Rattle.nova_search.specs.Searches.{IsFirst, IsFirstAt, IsWay, state_at, state_of, states_of}
 use Rattle.nova_search.specs.declared.exploring.Explored.{Explored}
 use Rattle.nova_search.specs.declared.found.Found.{Found}
-use Rattle.nova_asking.specs.Answers.{IsAnswer, IsFoundBy, extent_of}
+use Rattle.nova_search.specs.declared.merging.Merging.TheVariants.{Alike}
+use Rattle.nova_asking.specs.Answers.{AreSeen, IsAnswer, IsFoundBy, extent_of}
 use Rattle.nova_asking.specs.Questions.{IsOfState, ahead, is_so}
 use Rattle.nova_asking.specs.Searched.{IsSearch, IsUnfound}
 use Rattle.nova_asking.specs.declared.answer.Answer.{Answer}
@@ -17,7 +20,7 @@ use Rattle.nova_asking.specs.declared.answer.Answer.TheVariants as answer
 use Rattle.nova_asking.specs.declared.extent.Extent.{Extent}
 use Rattle.nova_asking.specs.declared.question.Question.{Question}
 use Rattle.nova_asking.specs.declared.question.Question.TheVariants as question
-use Rattle.nova_asking.proofs.Told.{along, found_by, more_where_cut, never_by, short_at, way_from}
+use Rattle.nova_asking.proofs.Told.{AreKnown, along, found_by, more_where_cut, never_by, seen_in, short_at, way_from}
 
 -- a question on states doesn't look ahead
 not_ahead : (q : Question) → IsOfState q → ahead q ≡ 0
@@ -34,22 +37,24 @@ not_ahead (question.Stuck ec) is = refl
 not_ahead (question.Hangs turns a) is = absurd is
 not_ahead question.Ends is = refl
 
-module _ (q : Question) (k : KernelState) (limit most : ℕ) (e : Explored) (found : List Found) (search : IsSearch (is_so q) k limit most e) (of_state : IsOfState q) (same : found ≡ e.found.items) where
+module _ (known : AreKnown) (q : Question) (k : KernelState) (limit most : ℕ) (e : Explored) (found : List Found) (search : IsSearch Alike (is_so q) k limit most e) (of_state : IsOfState q)
+    (alike : (s t : KernelState) → IsAlike s t → is_so q s ≡ is_so q t) (same : found ≡ e.found.items) where
   reach : limit ≡ limit + ahead q
   reach = let not = not_ahead q of_state in omega (arith, not)
+
+  isnt : e.goal ≡ None → (order : List ℕ) → HasOne Alike (states_of e.found.items) (run k order) → is_so q (run k order) ≡ false
+  isnt none order has =
+      sym (alike has.one (run k order) has.is) ∙ subst (λ (o : Option ℕ). IsFirst (is_so q) (states_of e.found.items) o) none search.goal has.one has.there
 
   pub unfound_by : (a : Answer) (extent : Extent) → e.goal ≡ None → extent ≡ extent_of e.is_over e.is_whole → IsUnfound q found extent a → IsAnswer q k limit most a
   unfound_by (answer.Found order states) extent none is a = absurd a
   unfound_by (answer.Never x states absent) extent none is (kind, many, missing) =
       let its = kind ∙ is in
-      never_by (is_so q) q k limit limit most e found x states absent search reach same
-      (record {
-        each = λ order are.
-            subst (λ (o : Option ℕ). IsFirst (is_so q) (states_of e.found.items) o) none search.goal (run k order)
-            (along (is_so q) k limit limit most e search (omega arith) x its order are);
-      })
-      (along (is_so q) k limit limit most e search (omega arith) x its)
-      (more_where_cut (is_so q) k limit limit most e search (omega arith) x none its) many missing
+      never_by known Alike (is_so q) q k limit limit most e found x states absent search reach same
+      (record { each = λ order are. isnt none order (along Alike (is_so q) k limit limit most e search (omega arith) x its order are) })
+      (along Alike (is_so q) k limit limit most e search (omega arith) x its)
+      (more_where_cut Alike (is_so q) k limit limit most e search (omega arith) x none its) many missing
+      (λ of s. subst (λ (o : Option ℕ). IsFirst (is_so q) (states_of e.found.items) o) none search.goal s)
 
   pub told_found : (place states : ℕ) (blocks : List Block) → e.goal ≡ Some place → states ≡ length found → IsOrder blocks →
       ((d : KernelState) → IsWay (state_at found 0 d) (state_at found place d) (turns blocks)) → IsFoundBy q k limit blocks states
@@ -58,5 +63,6 @@ module _ (q : Question) (k : KernelState) (limit most : ℕ) (e : Explored) (fou
       let there : place < length e.found.items = let less = first.there in let long = length-map e.found.items state_of in omega (arith, less, long) in
       let way : IsWay k (state_at e.found.items place k) (turns blocks) = way_from k e.found.items place (turns blocks) search.first
       (subst (λ (l : List Found). (d : KernelState) → IsWay (state_at l 0 d) (state_at l place d) (turns blocks)) same ways) k in
-      found_by q k limit e.found.items place states blocks order search.reached search.nearest (many ∙ ap length same) there way
+      found_by Alike q k limit e.found.items place states blocks alike order
+      (subst (λ (n : ℕ). AreSeen k n e.found.items) reach (seen_in Alike (is_so q) k limit limit most e search (omega arith) known)) search.nearest (many ∙ ap length same) there way
       (short_at k limit e.found.items place (turns blocks) search.first search.few there way) (first.passes k) first.none

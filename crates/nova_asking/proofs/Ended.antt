@@ -1,6 +1,6 @@
 -- Ends that are entered one by one.
-use Rattle.std.proofs.Common.{◌≡◌, ◌⊎◌, ◌∙◌, ℕ, zero, suc, ◌+◌, ◌<◌, ◌≤◌, List, [], ◌∷◌, ◌++◌, length, refl, ap, subst, sym, arith, inl, inr}
-use Rattle.std.specs.Prelude.{Contains, Option, None, true, slice_index_or, slice_set}
+use Rattle.std.proofs.Common.{◌≡◌, ◌⊎◌, ◌∙◌, ℕ, zero, suc, ◌+◌, ◌<◌, ◌≤◌, List, [], ◌∷◌, ◌++◌, length, refl, ap, ap₂, subst, sym, arith, inl, inr}
+use Rattle.std.specs.Prelude.{Contains, Option, None, Some, true, slice_index_or, slice_set}
 use Rattle.std.specs.List.{AllByRecursion}
 use Rattle.std.proofs.lemmas.List.{get_or-map, length-map, map-append}
 use Rattle.std.proofs.lemmas.List.Elements.{Contains-append_left, Contains-push, Contains-push_cases}
@@ -10,16 +10,16 @@ use Rattle.nova_search.specs.Searches.{state_at}
 use Rattle.nova_search.specs.declared.found.Found.{Found}
 use Rattle.nova_compare.proofs.Places.{place}
 use Rattle.nova_asking.specs.Answers.{AreDistinct, EndsSo, IsEnd, outcomes}
-use Rattle.nova_asking.specs.Searched.{HaveOutcomes, HaveSoFar, IsPlaceOf, KeepEnds, LeadThere}
+use Rattle.nova_asking.specs.Searched.{HaveOutcomes, HaveSoFar, IsPlaceOf, KeepEnds, LeadThere, one_more}
 use Rattle.nova_asking.specs.Outcomes.{outcome}
 use Rattle.nova_asking.specs.declared.ends.End.{End}
 
 abbrev pub outcome_of : End → List ℕ
 outcome_of e = e.outcome.items
 
-pub outcome_there : (ends : List End) (i : ℕ) (e : End) (text : List ℕ) → i < length ends → e ≡ slice_index_or ends i e → outcome_of e ≡ text → Contains (outcomes ends) text
-outcome_there ends i e text less is same =
-    (i, (let long = length-map ends outcome_of in omega (arith, less, long)), get_or-map outcome_of ends i e text less ∙ ap outcome_of (sym is) ∙ same)
+pub outcome_at : (ends : List End) (i : ℕ) (e : End) (text : List ℕ) → i < length ends → e ≡ slice_index_or ends i e → outcome_of e ≡ text →
+    (d : List ℕ) → slice_index_or (outcomes ends) i d ≡ text
+outcome_at ends i e text less is same d = get_or-map outcome_of ends i e d less ∙ ap outcome_of (sym is) ∙ same
 
 -- an end that changes in its count alone
 same_outcomes : (ends : List End) (i : ℕ) (e : End) → outcome_of e ≡ outcome_of (slice_index_or ends i e) → outcomes (slice_set ends i e) ≡ outcomes ends
@@ -35,12 +35,25 @@ any_default (x ∷ l) (suc n) a b less = any_default l n a b (omega (arith, less
 pub counted_outcomes : (ends : List End) (i : ℕ) (x e : End) → i < length ends → x ≡ slice_index_or ends i x → outcome_of e ≡ outcome_of x → outcomes (slice_set ends i e) ≡ outcomes ends
 counted_outcomes ends i x e less is same = same_outcomes ends i e (same ∙ ap outcome_of (is ∙ any_default ends i x e less))
 
+-- and that by one
+pub raised : (ends : List End) (i : ℕ) (d x y e : End) (n : ℕ) → i < length ends → x ≡ slice_index_or ends i x → y ≡ slice_index_or ends i y → (y.states + 1 < 18446744073709551616 → n ≡ y.states + 1) →
+    e ≡ record x { states = n } → (slice_index_or ends i d).states + 1 < 18446744073709551616 → slice_set ends i e ≡ slice_set ends i (one_more (slice_index_or ends i d))
+raised ends i d x y e n less is too sum same room =
+    ap (λ (z : End). slice_set ends i z)
+    (same ∙ ap (λ (m : ℕ). record x { states = m }) (sum (subst (λ (z : End). z.states + 1 < 18446744073709551616) (sym other) room)) ∙ ap₂ (λ (a b : End). record a { states = b.states + 1 }) here other)
+  where
+    here : x ≡ slice_index_or ends i d
+    here = is ∙ any_default ends i x d less
+
+    other : y ≡ slice_index_or ends i d
+    other = too ∙ any_default ends i y d less
+
 pub all_set : {T : Type 0} (P : T → Type 0) (xs : List T) (i : ℕ) (x : T) → (P (slice_index_or xs i x) → P x) → AllByRecursion P xs → AllByRecursion P (slice_set xs i x)
 all_set P [] i x goes each = each
 all_set P (y ∷ xs) zero x goes each = (goes each.0, each.1)
 all_set P (y ∷ xs) (suc i) x goes each = (each.0, all_set P xs i x goes each.1)
 
-all_more : {T : Type 0} (P : T → Type 0) (xs : List T) (x : T) → AllByRecursion P xs → P x → AllByRecursion P (xs ++ x ∷ [])
+pub all_more : {T : Type 0} (P : T → Type 0) (xs : List T) (x : T) → AllByRecursion P xs → P x → AllByRecursion P (xs ++ x ∷ [])
 all_more P [] x each is = (is, tt)
 all_more P (y ∷ xs) x each is = (each.0, all_more P xs x each.1 is)
 
@@ -80,6 +93,14 @@ pub pushed_there : (ends : List End) (e : End) (text : List ℕ) → outcome_of 
 pushed_there ends e text same =
     subst (λ (l : List (List ℕ)). Contains l text) (sym (outcomes_more ends e))
     (subst (λ (t : List ℕ). Contains (outcomes ends ++ outcome_of e ∷ []) t) same (Contains-push (outcomes ends) (outcome_of e)))
+
+-- what is told of an outcome that is there
+pub some_by : (ends es : List End) (text t : List ℕ) (o : Option ℕ) (at : ℕ) → IsPlaceOf es t o → o ≡ Some at → es ≡ ends → t ≡ text → IsPlaceOf ends text (Some at)
+some_by ends es text t o at is same equal there =
+    subst (λ (x : List ℕ). IsPlaceOf ends x (Some at)) there (subst (λ (l : List End). IsPlaceOf l t (Some at)) equal (subst (λ (x : Option ℕ). IsPlaceOf es t x) same is))
+
+pub there_by : (ends : List End) (at : ℕ) (text : List ℕ) → IsPlaceOf ends text (Some at) → Contains (outcomes ends) text
+there_by ends at text (less, is) = (at, (let long = length-map ends outcome_of in omega (arith, less, long)), is text)
 
 -- what is told of an outcome that is not there
 pub none_by : (ends es : List End) (text t : List ℕ) (o : Option ℕ) → IsPlaceOf es t o → o ≡ None → es ≡ ends → t ≡ text → Contains (outcomes ends) text → ⊥

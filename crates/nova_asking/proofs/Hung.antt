@@ -8,10 +8,12 @@ use Rattle.nova_model.specs.State.{KernelState}
 use Rattle.nova_order.specs.Blocks.{IsOrder, turns as turns_of}
 use Rattle.nova_order.specs.declared.block.Block.{Block}
 use Rattle.nova_search.specs.Edges.{IsEdge, IsLed, edge}
+use Rattle.nova_search.specs.Merged.{HasOne}
 use Rattle.nova_search.specs.Searches.{AreProcessors, IsReached, IsWay, state_at, state_of, states_of}
 use Rattle.nova_search.specs.declared.edges.Edge.{Edge}
 use Rattle.nova_search.specs.declared.exploring.Explored.{Explored}
 use Rattle.nova_search.specs.declared.found.Found.{Found}
+use Rattle.nova_search.specs.declared.merging.Merging.TheVariants.{Same}
 use Rattle.nova_asking.specs.Answers.{IsAnswer, IsFoundBy, IsNever, extent_of}
 use Rattle.nova_asking.specs.Hangs.{comes_within, is_aim}
 use Rattle.nova_asking.specs.Least.{AreDrawn, AreLeast, ComesAt, IsSeen, is_within, least_at, seems}
@@ -25,7 +27,7 @@ use Rattle.nova_asking.specs.declared.extent.Extent.TheVariants.{Within, Cut}
 use Rattle.nova_asking.specs.declared.question.Question.{Question}
 use Rattle.nova_asking.specs.declared.question.Question.TheVariants as question
 use Rattle.nova_asking.proofs.Coming.{none_comes, only_none}
-use Rattle.nova_asking.proofs.Told.{GoAlong, along, found_by, never_by, no_goal, short_by, way_from}
+use Rattle.nova_asking.proofs.Told.{AreKnown, GoAlong, along, found_by, never_by, no_goal, seen_in, short_by, way_from}
 
 not_both : (b : Bool) → b ≡ true → b ≡ false → ⊥
 not_both b is not = absurd (cc)
@@ -156,8 +158,8 @@ does_hang turns a s o none is =
     let two = both (is_sought a s) (not (is_within o (s.turns + turns))) is in
     rw two.0 (rw (none (not_not (is_within o (s.turns + turns)) two.1)) refl)
 
-module _ (turns : ℕ) (a : Aim) (k : KernelState) (limit most : ℕ) (e : Explored) (search : IsSearch (λ (s : KernelState). false) k (limit + turns) most e) (drawn : AreDrawn k (limit + turns) e)
-    (found : List Found) (same : found ≡ e.found.items) where
+module _ (turns : ℕ) (a : Aim) (k : KernelState) (limit most : ℕ) (e : Explored) (known : AreKnown)
+    (search : IsSearch Same (λ (s : KernelState). false) k (limit + turns) most e) (drawn : AreDrawn k (limit + turns) e) (found : List Found) (same : found ≡ e.found.items) where
   abbrev pub q : Question
   q = question.Hangs turns a
 
@@ -178,14 +180,14 @@ module _ (turns : ℕ) (a : Aim) (k : KernelState) (limit most : ℕ) (e : Explo
       (λ not. subst (λ (n : ℕ). comes_within (is_aim a) n turns s ≡ false) (sym cpus)
       (none_within (is_aim a) k (limit + turns) e drawn over least are turns i d there (omega (arith, few)) not)) is
 
-  unfound_by : (x : Answer) (extent : Extent) → IsNever q k limit extent → GoAlong extent k limit all → (extent ≡ Cut → most < length e.found.items) → IsUnfound q found extent x →
+  unfound_by : (x : Answer) (extent : Extent) → IsNever q k limit extent → GoAlong Same extent k (limit + turns) all → (extent ≡ Cut → most < length e.found.items) → IsUnfound q found extent x →
       IsAnswer q k limit most x
   unfound_by (answer.Found order _) extent never goes more is = absurd is
   unfound_by (answer.Never y count absent) extent never goes more (kind, many, missing) =
-      never_by (λ (s : KernelState). false) q k limit (limit + turns) most e found y count absent search refl same
+      never_by known Same (λ (s : KernelState). false) q k limit (limit + turns) most e found y count absent search refl same
       (subst (λ (z : Extent). IsNever q k limit z) (sym kind) never)
-      (subst (λ (z : Extent). GoAlong z k limit all) (sym kind) goes)
-      (λ cut. more (sym kind ∙ cut)) many missing
+      (subst (λ (z : Extent). GoAlong Same z k (limit + turns) all) (sym kind) goes)
+      (λ cut. more (sym kind ∙ cut)) many missing (λ of. absurd of)
 
   pub cut_short : (x : Answer) → e.is_over ≡ false → IsUnfound q found Cut x → IsAnswer q k limit most x
   cut_short x not is =
@@ -198,22 +200,27 @@ module _ (turns : ℕ) (a : Aim) (k : KernelState) (limit most : ℕ) (e : Explo
   pub none_hangs : (x : Answer) → e.is_over ≡ true → IsSeen turns a (is_aim a) e None → IsUnfound q found (extent_of true e.is_whole) x → IsAnswer q k limit most x
   none_hangs x over seen is =
       unfound_by x (extent_of true e.is_whole)
-      (record { each = λ order are. none (run k order) (goes order are) }) goes (λ cut. absurd (never_cut e.is_whole cut)) is
+      (record { each = λ order are. after_it order (goes order are) })
+      (along Same (λ (s : KernelState). false) k (limit + turns) (limit + turns) most e search (omega arith) (extent_of true e.is_whole)
+      (ap (λ (b : Bool). extent_of b e.is_whole) (sym over))) (λ cut. absurd (never_cut e.is_whole cut)) is
     where
-      goes : GoAlong (extent_of true e.is_whole) k limit all
-      goes = along (λ (s : KernelState). false) k limit (limit + turns) most e search (omega arith) (extent_of true e.is_whole)
+      goes : GoAlong Same (extent_of true e.is_whole) k limit all
+      goes = along Same (λ (s : KernelState). false) k limit (limit + turns) most e search (omega arith) (extent_of true e.is_whole)
           (ap (λ (b : Bool). extent_of b e.is_whole) (sym over))
 
       none : (s : KernelState) → Contains all s → is_so q s ≡ false
       none s there = subst (λ (t : KernelState). is_so q t ≡ false) there.2
           (isnt_so seen.least there.0 s seen.are there.1 (seen.place there.0 s there.1))
 
+      after_it : (order : List ℕ) → HasOne Same all (run k order) → is_so q (run k order) ≡ false
+      after_it order has = subst (λ (t : KernelState). is_so q t ≡ false) has.is (none has.one has.there)
+
   pub too_late : (x : Answer) (place : ℕ) → e.is_over ≡ true → IsSeen turns a (is_aim a) e (Some place) → ((d : KernelState) → limit < (state_at e.found.items place d).turns) →
       IsUnfound q found Within x → IsAnswer q k limit most x
   too_late x place over seen late is =
       unfound_by x Within
       (record { each = λ order are. none order are.0 are.1 })
-      (λ order are. (search.within over).each order are.0 (let few = are.1 in omega (arith, few)))
+      (λ order are. (search.within over).each order are.0 are.1)
       (λ cut. absurd (cc)) is
     where
       none : (order : List ℕ) → AreProcessors k.cpus order → k.turns + length order ≤ limit → is_so q (run k order) ≡ false
@@ -222,8 +229,8 @@ module _ (turns : ℕ) (a : Aim) (k : KernelState) (limit most : ℕ) (e : Explo
           let before = search.nearest.each place k seen.place.there order are (omega (arith, few, more)) in
           let there = seen.place.there in
           let less = before.before in
-          subst (λ (t : KernelState). is_so q t ≡ false) before.is
-          (isnt_so seen.least before.its_place (run k order) seen.are (omega (arith, less, there)) (seen.place.none before.its_place (run k order) before.before))
+          subst (λ (t : KernelState). is_so q t ≡ false) (before.is k)
+          (isnt_so seen.least before.its_place k seen.are (omega (arith, less, there)) (seen.place.none before.its_place k before.before))
 
   pub hung_found : (place states : ℕ) (blocks : List Block) → e.is_over ≡ true → IsSeen turns a (is_aim a) e (Some place) → ((d : KernelState) → (state_at e.found.items place d).turns ≤ limit) →
       states ≡ length found → IsOrder blocks → ((d : KernelState) → IsWay (state_at found 0 d) (state_at found place d) (turns_of blocks)) → IsFoundBy q k limit blocks states
@@ -233,7 +240,8 @@ module _ (turns : ℕ) (a : Aim) (k : KernelState) (limit most : ℕ) (e : Explo
       let less : place < length e.found.items = omega (arith, there, long) in
       let way : IsWay k (state_at e.found.items place k) (turns_of blocks) = way_from k e.found.items place (turns_of blocks) search.first
       (subst (λ (l : List Found). (d : KernelState) → IsWay (state_at l 0 d) (state_at l place d) (turns_of blocks)) same ways) k in
-      found_by q k limit e.found.items place count blocks order search.reached search.nearest (many ∙ ap length same) less way
+      found_by Same q k limit e.found.items place count blocks (λ s t is. ap (λ (x : KernelState). is_so q x) is) order
+      (seen_in Same (λ (s : KernelState). false) k (limit + turns) (limit + turns) most e search (omega arith) known) search.nearest (many ∙ ap length same) less way
       (short_by k (state_at e.found.items place k) limit (turns_of blocks) way (few k))
       (is_so_at seen.least place k seen.are over less (few k) (seen.place.is k))
       (λ i d before. isnt_so seen.least i d seen.are (omega (arith, before, there)) (seen.place.none i d before))

@@ -4,7 +4,9 @@ pub mod Orders
 pub mod Told
 pub mod Answered
 pub mod Ended
+pub mod Counted
 pub mod Coming
 pub mod Near
 pub mod Hung
 pub mod Due
+pub mod Alike

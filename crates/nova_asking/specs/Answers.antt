@@ -1,13 +1,18 @@
 -- What an answer says of the orders of turns from a state.
-use Rattle.std.specs.Prelude.{◌≡◌, ℕ, ◌+◌, ◌-◌, ◌<◌, ◌≤◌, Bool, true, false, List, [], ◌∷◌, length, map, All as AllOf, Contains, Option, Some, None}
+use Rattle.std.specs.Prelude.{◌≡◌, ℕ, ◌+◌, ◌-◌, ◌<◌, ◌≤◌, ◌&&◌, Bool, true, false, List, [], ◌∷◌, length, map, All as AllOf, Contains, Option, Some, None}
+use Rattle.std.specs.List.{AllByRecursion, count_by}
+use Rattle.std.specs.Str.{bytes_eq}
 use Rattle.nova_model.specs.Choice.{is_quiet}
 use Rattle.nova_model.specs.Runs.{run}
 use Rattle.nova_model.specs.State.{KernelState}
 use Rattle.nova_order.specs.Blocks.{IsOrder, turns}
 use Rattle.nova_order.specs.declared.block.Block.{Block}
-use Rattle.nova_search.specs.Searches.{AreNearest, AreProcessors, IsReached, IsWay}
+use Rattle.nova_search.specs.Merged.{HasOne}
+use Rattle.nova_search.specs.Searches.{AreLinked, AreNearest, AreOfOwnTurns, AreProcessors, IsReached, IsWay, states_of}
+use Rattle.nova_search.specs.declared.found.Found.{Found as FoundState}
+use Rattle.nova_search.specs.declared.merging.Merging.TheVariants.{Alike}
 use Rattle.nova_asking.specs.Outcomes.{outcome}
-use Rattle.nova_asking.specs.Questions.{ahead, has_context, is_so, named}
+use Rattle.nova_asking.specs.Questions.{IsOfState, ahead, has_context, is_so, named}
 use Rattle.nova_asking.specs.declared.answer.Answer.{Answer}
 use Rattle.nova_asking.specs.declared.answer.Answer.TheVariants.{Found, Never}
 use Rattle.nova_asking.specs.declared.ends.End.{End}
@@ -46,24 +51,32 @@ pub record IsWitness (q : Question) (k : KernelState) (limit : ℕ) (order : Lis
   pub is : is_so q (run k order) ≡ true
   pub shortest : IsShortest (λ (s : KernelState). is_so q s ≡ true) k order
 
--- the states that a search found: each is one that an order leads to, and each order of fewer turns than one of them has taken leads to one before it
-pub record AreSeen (k : KernelState) (states : List KernelState) : Type 0 where
-  pub reached : AllOf (IsReached k) states
-  pub nearest : AreNearest k states
+-- an order within the limit leads to a state
+pub record IsReachedWithin (k : KernelState) (limit : ℕ) (s : KernelState) : Type 0 where
+  pub reached : IsReached k s
+  pub short : IsShort k limit reached.order
+
+-- the states that a search found: an order within the limit leads to each; each but the first was found after a turn of its own, in one before it; and each order of fewer turns than one of
+-- them has taken leads to a state that is alike to one before it
+pub record AreSeen (k : KernelState) (limit : ℕ) (found : List FoundState) : Type 0 where
+  pub reached : AllOf (IsReachedWithin k limit) (states_of found)
+  pub linked : AreLinked found
+  pub own : AreOfOwnTurns found
+  pub nearest : AreNearest Alike k (states_of found)
 
 -- so many states were found, with that after an order
-pub record AreFound (k : KernelState) (order : List ℕ) (count : ℕ) : Type 0 where
-  pub states : List KernelState
-  pub seen : AreSeen k states
-  pub there : Contains states (run k order)
-  pub number : length states ≡ count
+pub record AreFound (k : KernelState) (limit : ℕ) (order : List ℕ) (count : ℕ) : Type 0 where
+  pub found : List FoundState
+  pub seen : AreSeen k limit found
+  pub there : Contains (states_of found) (run k order)
+  pub number : length found ≡ count
 
--- so many were, with each after an order that was gone along; they are more than may be expanded where the search is cut
-pub record IsCount (k : KernelState) (limit most : ℕ) (extent : Extent) (count : ℕ) : Type 0 where
-  pub states : List KernelState
-  pub seen : AreSeen k states
-  pub there : (order : List ℕ) → IsCovered extent k limit order → Contains states (run k order)
-  pub number : length states ≡ count
+-- so many were, within a limit, with one that is alike to that after each order within another that was gone along; they are more than may be expanded where the search is cut
+pub record IsCount (k : KernelState) (reach limit most : ℕ) (extent : Extent) (count : ℕ) : Type 0 where
+  pub found : List FoundState
+  pub seen : AreSeen k reach found
+  pub there : (order : List ℕ) → IsCovered extent k limit order → HasOne Alike (states_of found) (run k order)
+  pub number : length found ≡ count
   pub more : extent ≡ Cut → most < count
 
 -- no order that was gone along leads to a state with this execution context; or one within the limit does, without idle turns
@@ -78,19 +91,24 @@ pub record IsSometimeThere (ec : ℕ) (k : KernelState) (limit : ℕ) : Type 0 w
 
 -- the execution context that a question names is never there; or it names none, or that is there sometime
 abbrev pub IsAbsent : Question → KernelState → ℕ → Extent → Option ℕ → Type 0
-IsAbsent q k limit extent (Some ec) = (named q ≡ Some ec) × IsNeverThere ec k limit extent
+IsAbsent q k limit extent (Some ec) = (named q ≡ Some ec) × IsNeverThere ec k (limit + ahead q) extent
 IsAbsent q k limit extent None = (ec : ℕ) → named q ≡ Some ec → IsSometimeThere ec k (limit + ahead q)
 
 -- the blocks of an order that leads to a state that is so
 pub record IsFoundBy (q : Question) (k : KernelState) (limit : ℕ) (blocks : List Block) (states : ℕ) : Type 0 where
   pub order : IsOrder blocks
   pub leads : IsWitness q k limit (turns blocks)
-  pub found : AreFound k (turns blocks) states
+  pub found : AreFound k (limit + ahead q) (turns blocks) states
+
+-- none of the states that were found is so, of a question on states
+abbrev pub AreNot : Question → List FoundState → Type 0
+AreNot q found = IsOfState q → (s : KernelState) → Contains (states_of found) s → is_so q s ≡ false
 
 -- none that was gone along does
 pub record IsNeverBy (q : Question) (k : KernelState) (limit most : ℕ) (extent : Extent) (states : ℕ) (ec : Option ℕ) : Type 0 where
   pub never : IsNever q k limit extent
-  pub count : IsCount k limit most extent states
+  pub count : IsCount k (limit + ahead q) limit most extent states
+  pub none : AreNot q count.found
   pub absent : IsAbsent q k limit extent ec
 
 abbrev pub IsAnswer : Question → KernelState → ℕ → ℕ → Answer → Type 0
@@ -125,3 +143,17 @@ pub record AreEnds (k : KernelState) (limit : ℕ) (extent : Extent) (outcomes :
 abbrev pub AreDistinct : List (List ℕ) → Type 0
 AreDistinct [] = Unit {0}
 AreDistinct (text ∷ texts) = (Contains texts text → ⊥) × AreDistinct texts
+
+-- whether the run has ended, with this outcome
+abbrev pub has_ended_so : List ℕ → KernelState → Bool
+has_ended_so text s = is_quiet s && bytes_eq (outcome s) text
+
+-- each end has the number of those of the states in which the run has ended so
+abbrev pub AreCounted : List KernelState → List End → Type 0
+AreCounted states ends = AllByRecursion (λ (e : End). e.states ≡ count_by (has_ended_so e.outcome.items) states) ends
+
+-- so many states were found, and so many of them are of each end; the outcome of each in which the run has ended is among them
+pub record AreCounts (k : KernelState) (limit most : ℕ) (extent : Extent) (count : ℕ) (ends : List End) : Type 0 where
+  pub all : IsCount k limit limit most extent count
+  pub each : AreCounted (states_of all.found) ends
+  pub listed : (s : KernelState) → Contains (states_of all.found) s → is_quiet s ≡ true → Contains (outcomes ends) (outcome s)

@@ -1,11 +1,13 @@
 -- What a search found, and what was seen of it.
-use Rattle.std.specs.Prelude.{◌≡◌, ℕ, ◌<◌, ◌≤◌, Bool, true, false, List, length, slice_index_or, All, Contains, Option, Some, None}
+use Rattle.std.specs.Prelude.{◌≡◌, ℕ, ◌+◌, ◌<◌, ◌≤◌, Bool, true, false, List, length, slice_index_or, All, Contains, Option, Some, None}
 use Rattle.std.specs.List.{AllByRecursion}
 use Rattle.nova_model.specs.Choice.{is_quiet}
 use Rattle.nova_model.specs.State.{KernelState}
-use Rattle.nova_search.specs.Searches.{AreAll, AreAllWithin, AreNearest, IsFirst, IsReached, state_at, states_of}
+use Rattle.nova_search.specs.Searches.{AreAll, AreAllWithin, AreLinked, AreNearest, AreOfOwnTurns, IsFirst, IsReached, state_at, states_of}
 use Rattle.nova_search.specs.declared.exploring.Explored.{Explored}
 use Rattle.nova_search.specs.declared.found.Found.{Found}
+use Rattle.nova_search.specs.declared.merging.Merging.{Merging}
+use Rattle.nova_search.specs.declared.merging.Merging.TheVariants.{Alike}
 use Rattle.nova_asking.specs.Answers.{AreDistinct, IsEnd, outcomes}
 use Rattle.nova_asking.specs.Outcomes.{outcome}
 use Rattle.nova_asking.specs.Questions.{has_context, named}
@@ -26,18 +28,20 @@ AreFew limit found = (place : ℕ) (d : KernelState) → 0 < place → place < l
 -- what a search from a state found, nearest first
 pub record AreFrom (k : KernelState) (limit : ℕ) (found : List Found) : Type 0 where
   pub first : BeginsIn k found
-  pub nearest : AreNearest k (states_of found)
+  pub nearest : AreNearest Alike k (states_of found)
   pub few : AreFew limit found
 
 -- a search from a state, for those that pass a test, found this
-pub record IsSearch (test : KernelState → Bool) (k : KernelState) (limit most : ℕ) (e : Explored) : Type 0 where
+pub record IsSearch (m : Merging) (test : KernelState → Bool) (k : KernelState) (limit most : ℕ) (e : Explored) : Type 0 where
   pub reached : All (IsReached k) (states_of e.found.items)
-  pub nearest : AreNearest k (states_of e.found.items)
+  pub nearest : AreNearest m k (states_of e.found.items)
   pub goal : IsFirst test (states_of e.found.items) e.goal
-  pub within : e.is_over ≡ true → AreAllWithin k limit (states_of e.found.items)
-  pub all : e.is_over ≡ true → e.is_whole ≡ true → AreAll k (states_of e.found.items)
+  pub within : e.is_over ≡ true → AreAllWithin m k limit (states_of e.found.items)
+  pub all : e.is_over ≡ true → e.is_whole ≡ true → AreAll m k (states_of e.found.items)
   pub more : e.goal ≡ None → e.is_over ≡ false → most < length e.found.items
   pub first : BeginsIn k e.found.items
+  pub linked : AreLinked e.found.items
+  pub own : AreOfOwnTurns e.found.items
   pub few : AreFew limit e.found.items
 
 -- an execution context is in one of the states
@@ -62,7 +66,7 @@ unless_at None ec = Some ec
 
 -- the place of an outcome, or none where it isn't there
 abbrev pub IsPlaceOf : List End → List ℕ → Option ℕ → Type 0
-IsPlaceOf ends text (Some place) = (place < length ends) × Contains (outcomes ends) text
+IsPlaceOf ends text (Some place) = (place < length ends) × ((d : List ℕ) → slice_index_or (outcomes ends) place d ≡ text)
 IsPlaceOf ends text None = Contains (outcomes ends) text → ⊥
 
 -- the outcome of each of the states before a place in which the run has ended is among these
@@ -77,6 +81,10 @@ pub record HaveOutcomes (states : List KernelState) (outcomes : List (List ℕ))
 pub record KeepEnds (old new : List End) : Type 0 where
   pub once : AreDistinct (outcomes old) → AreDistinct (outcomes new)
   pub outcomes : (text : List ℕ) → Contains (outcomes old) text → Contains (outcomes new) text
+
+-- of an end one state more was found
+abbrev pub one_more : End → End
+one_more e = record e { states = e.states + 1 }
 
 -- orders of ends lead there from a state
 abbrev pub LeadThere : KernelState → ℕ → List End → List End → Type 0

@@ -1,18 +1,21 @@
 ghost use Rattle.std.specs.Prelude.{◌≡◌, ◌+◌, ◌^◌, ◌<◌, ◌≤◌, ℕ, length, IfOk, IfSome};
 ghost use Rattle.nova_model.specs.State.{KernelState};
 ghost use Rattle.nova_search.specs.Searches.{AreLinked, states_of};
+ghost use Rattle.nova_search.specs.declared.merging.Merging.TheVariants.{Alike};
 ghost use Rattle.nova_asking.specs.Answers.{IsAnswer};
 ghost use Rattle.nova_asking.specs.Questions.{IsApt, IsOfState, ahead, is_so};
 ghost use Rattle.nova_asking.specs.Searched.{BeginsIn, IsMissing, IsSearch, IsUnfound, unless_at};
 
 use crate::extent::Extent;
 use crate::hang::judge_hang;
+use crate::laws::alike_states_answer_alike;
 use crate::path::order_to;
 use crate::presence::Presence;
 use crate::question::Question;
+use crate::search::{let_go, search};
 use nova_compare::Vertex;
 use nova_order::Order;
-use nova_search::{Explored, Found, explore, first_goal};
+use nova_search::{Explored, Found, first_goal};
 use std::alloc::{AllocError, Global};
 
 /// What a search answers to a question.
@@ -32,9 +35,6 @@ pub enum Answer {
         absent: Option<u32>,
     },
 }
-
-/// What is let go here is dropped apart from all else.
-pub(crate) fn let_go<T: Drop>(_value: T) {}
 
 /// An execution context, where there is no place at which it is.
 fn unless_at(place: Option<usize>, ec: u32) -> Option<u32>
@@ -95,8 +95,10 @@ fn answered(
     requires first { BeginsIn opening.now explored.now.found.items }
     requires there { IfSome explored.now.goal (λ place. place < length explored.now.found.items) }
     requires is { IsOfState question.now }
-    ensures { (k : KernelState) (limit most : ℕ) → IsSearch (is_so question.now) k limit most explored.now → IfOk result (IsAnswer question.now k limit most) }
+    ensures { (k : KernelState) (limit most : ℕ) → IsSearch Alike (is_so question.now) k limit most explored.now → IfOk result (IsAnswer question.now k limit most) }
 {
+    alike_states_answer_alike();
+    law_alike::alikeness_is_an_equivalence();
     let found = explored.found.as_slice();
     let Some(place) = explored.goal else {
         let extent = Extent::of(explored.is_over, explored.is_whole);
@@ -121,7 +123,7 @@ fn judge_states(
     requires is { IsOfState question.now }
     ensures { IfOk result (IsAnswer question.now opening.now limit most) }
 {
-    let explored = explore(alloc, opening, limit, most, question)?;
+    let explored = search(alloc, opening, limit, most, question)?;
     let answer = answered(alloc, opening, question, &explored);
     let_go(explored);
     answer

@@ -2,6 +2,7 @@ ghost use Rattle.std.specs.Prelude.{◌≡◌, ◌+◌, ◌^◌, ◌<◌, ◌≤
 ghost use Rattle.nova_model.specs.State.{KernelState};
 ghost use Rattle.nova_search.specs.Edges.{AreAhead, AreEdges};
 ghost use Rattle.nova_search.specs.Searches.{AreLinked, state_at, states_of};
+ghost use Rattle.nova_search.specs.declared.merging.Merging.TheVariants.{Same};
 ghost use Rattle.nova_asking.specs.Answers.{IsAnswer};
 ghost use Rattle.nova_asking.specs.Hangs.{is_aim};
 ghost use Rattle.nova_asking.specs.Least.{AreDrawn, IsPlace, IsSeen, seems};
@@ -9,14 +10,16 @@ ghost use Rattle.nova_asking.specs.Searched.{BeginsIn, IsSearch};
 ghost use Rattle.nova_asking.specs.declared.question.Question.TheVariants.{Hangs};
 
 use crate::aim::Aim;
-use crate::answer::{Answer, let_go, unfound};
+use crate::answer::{Answer, unfound};
 use crate::extent::Extent;
+use crate::laws::alike_states_answer_alike;
 use crate::least::{is_within, least_turns};
 use crate::path::order_to;
 use crate::question::Question;
+use crate::search::let_go;
 use nova_compare::Vertex;
 use nova_kernel::Kernel;
-use nova_search::{Explored, Found, NoGoal, explore, kernel_at};
+use nova_search::{Explored, Found, Merging, NoGoal, explore, kernel_at};
 use std::alloc::{AllocError, Global};
 
 /// Whether the state of a kernel seems to hang: what is aimed at comes in no state that edges lead to, of at most so many turns more.
@@ -118,9 +121,11 @@ fn hanging(
     requires first { BeginsIn opening.now explored.now.found.items }
     requires edges { AreEdges (states_of explored.now.found.items) explored.now.edges.items }
     requires ahead { AreAhead explored.now.edges.items }
-    ensures { (k : KernelState) (most : ℕ) → IsSearch (λ _. false) k (limit + turns) most explored.now → AreDrawn k (limit + turns) explored.now
+    ensures { (k : KernelState) (most : ℕ) → IsSearch Same (λ _. false) k (limit + turns) most explored.now → AreDrawn k (limit + turns) explored.now
         → IfOk result (IsAnswer (Hangs turns aim) k limit most) }
 {
+    alike_states_answer_alike();
+    law_alike::alikeness_is_an_equivalence();
     let found = explored.found.as_slice();
     if !explored.is_over {
         return unfound(alloc, opening, question, found, Extent::Cut);
@@ -161,7 +166,7 @@ pub(crate) fn judge_hang(
     ensures { IfOk result (IsAnswer (Hangs turns aim) opening.now limit most) }
 {
     let reach = limit + u64::from(turns);
-    let explored = explore(alloc, opening, reach, most, &NoGoal)?;
+    let explored = explore(alloc, opening, Merging::Same, reach, most, &NoGoal)?;
     let answer = hanging(alloc, opening, &explored, limit, question, turns, aim);
     let_go(explored);
     answer

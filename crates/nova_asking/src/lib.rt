@@ -16,6 +16,7 @@ mod path;
 mod presence;
 mod question;
 mod scenarios;
+mod search;
 mod stores;
 
 pub use aim::Aim;
@@ -23,6 +24,6 @@ pub use answer::{Answer, judge};
 pub use bytes::Bytes;
 pub use ends::{End, Ends, list_ends};
 pub use extent::Extent;
-pub use laws::what_comes_within_turns;
+pub use laws::{alike_states_answer_alike, what_comes_within_turns};
 pub use question::{Location, Question};
 pub use scenarios::{judge_scenario, list_scenario_ends};

@@ -1,14 +1,15 @@
 ghost use Rattle.std.specs.Prelude.{◌≡◌, ◌+◌, ◌^◌, ◌≤◌, IfOk};
 ghost use Rattle.std.specs.List.{AllByRecursion};
-ghost use Rattle.nova_asking.specs.Answers.{AreDistinct, AreEnds, IsAnswer, IsCount, IsEnd, outcomes};
+ghost use Rattle.nova_asking.specs.Answers.{AreCounts, AreDistinct, AreEnds, IsAnswer, IsEnd, outcomes};
 ghost use Rattle.nova_asking.specs.Questions.{IsApt, ahead};
 ghost use Rattle.nova_boot.specs.Boot.{scenario_of};
 ghost use Rattle.nova_model.specs.Boot.{boot};
 ghost use Rattle.nova_scenario.specs.Sound.{IsSound};
 
-use crate::answer::{Answer, judge, let_go};
+use crate::answer::{Answer, judge};
 use crate::ends::{Ends, list_ends};
 use crate::question::Question;
+use crate::search::let_go;
 use nova_boot::boot;
 use nova_compare::Vertex;
 use nova_scenario::Scenario;
@@ -58,7 +59,7 @@ pub fn list_scenario_ends(
     ensures each { IfOk result (λ e. AllByRecursion (IsEnd (boot (scenario_of scenario.now)) limit) e.ends.items) }
     ensures all { IfOk result (λ e. AreEnds (boot (scenario_of scenario.now)) limit e.extent (outcomes e.ends.items)) }
     ensures once { IfOk result (λ e. AreDistinct (outcomes e.ends.items)) }
-    ensures states { IfOk result (λ e. IsCount (boot (scenario_of scenario.now)) limit most e.extent e.states) }
+    ensures states { IfOk result (λ e. AreCounts (boot (scenario_of scenario.now)) limit most e.extent e.states e.ends.items) }
 {
     let opening = opening(alloc, scenario)?;
     let ends = list_ends(alloc, &opening, limit, most);

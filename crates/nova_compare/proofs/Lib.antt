@@ -1,3 +1,5 @@
 pub mod Places
 pub mod Next
 pub mod Readings
+pub mod Peers
+pub mod Telling

@@ -8,6 +8,7 @@ use Rattle.nova_model.specs.Turn.{Step, answer_of, turn}
 use Rattle.nova_model.specs.declared.event.Event.{Event}
 use Rattle.nova_model.specs.declared.event.Turn.TheVariants.{Stepped}
 use Rattle.law_turns.specs.Keeping.{IsKept}
+use Rattle.law_alike.specs.Alike.{AreStampsGiven}
 use Rattle.law_sameness.specs.Counts.{Counts, IsFresh, counts_after, counts_of, first_stamp, stamp_in}
 use Rattle.law_sameness.specs.States.{AreZero}
 use Rattle.law_sameness.proofs.Counted.{made_counts}
@@ -24,21 +25,25 @@ boot_counts k clocks stamps id begins b c s i =
     ∙ ap (λ (n : ℕ). made_counts k.times.clocks (map stamp_in k.budgets) k.next_stamp n) (i ∙ sym f.id)
 
 pub begin_vertex : (k s : KernelState) (t : Counts) → ((s : Scenario) → IsFresh (boot s)) → ((scenario : Scenario) (turns : List ℕ) → IsKept (run (boot scenario) turns)) →
+    ((scenario : Scenario) (turns : List ℕ) → AreStampsGiven (run (boot scenario) turns)) →
     ((scenario : Scenario) (turns : List ℕ) → AreZero (run (boot scenario) turns)) → IsBooted k → t ≡ counts_of k → s ≡ k → IsVertex s t
-begin_vertex k s t begins kept zero b is same = subst (λ (x : KernelState). IsVertex x t) (sym same) (record {
+begin_vertex k s t begins kept given zero b is same = subst (λ (x : KernelState). IsVertex x t) (sym same) (record {
   kept = subst IsKept (sym b.is) (kept b.scenario []);
+  given = subst AreStampsGiven (sym b.is) (given b.scenario []);
   zero = subst AreZero (sym b.is) (zero b.scenario []);
   counts = is;
   processors = (let f : IsFresh k = subst IsFresh (sym b.is) (begins b.scenario) in f.processors ∙ sym f.clocks);
 })
 
 pub next_vertex : (k s : KernelState) (cpu : ℕ) (t u : Counts) (e : Event) → ((k : KernelState) (cpu : ℕ) → IsKept k → IsKept (after k cpu)) →
+    ((k : KernelState) (cpu : ℕ) → AreStampsGiven k → AreStampsGiven (after k cpu)) →
     ((k : KernelState) (cpu : ℕ) → AreZero k → AreZero (after k cpu)) →
     ((k : KernelState) (cpu : ℕ) (e : Event) → answer_of (turn k cpu) ≡ Stepped e → counts_of (after k cpu) ≡ counts_after (counts_of k) k e (after k cpu)) →
     ((k : KernelState) (cpu : ℕ) → k.stirs.processors ≡ k.times.clocks → (after k cpu).stirs.processors ≡ (after k cpu).times.clocks) →
     IsVertex k t → IsAfter k cpu s e → u ≡ counts_after t k e s → IsVertex s u
-next_vertex k s cpu t u e keeps zeros turns stays v a is = subst (λ (x : KernelState). IsVertex x u) (sym a.state) (record {
+next_vertex k s cpu t u e keeps gives zeros turns stays v a is = subst (λ (x : KernelState). IsVertex x u) (sym a.state) (record {
   kept = keeps k cpu v.kept;
+  given = gives k cpu v.given;
   zero = zeros k cpu v.zero;
   counts =
       is ∙ ap (λ (x : KernelState). counts_after t k e x) a.state ∙ ap (λ (c : Counts). counts_after c k e (after k cpu)) v.counts ∙ sym (turns k cpu e a.answer);

@@ -1,2 +1,3 @@
 pub mod Vertices
 pub mod Steps
+pub mod Peers

@@ -1,13 +1,11 @@
-ghost use Rattle.std.specs.Prelude.{◌≡◌, ◌<◌, ℕ, true, IfSome, length, slice_get};
+ghost use Rattle.std.specs.Prelude.{◌≡◌, ◌<◌, ℕ, IfSome, length, slice_get};
 ghost use Rattle.std.specs.Bool.{OnTrue};
 ghost use Rattle.nova_model.specs.State.{context, context_at, entry, transfer_at};
 ghost use Rattle.nova_model.specs.Semaphores.{semaphore};
-ghost use Rattle.law_sameness.specs.States.{AreZero, IsSameAt, is_guest_in, stirs_at};
-ghost use Rattle.law_turns.specs.Tables.{IsOf};
-ghost use Rattle.nova_model.specs.Capabilities.{is_vcpu};
+ghost use Rattle.law_sameness.specs.States.{AreZero, IsSameAt};
 
 use crate::contexts::same_context;
-use nova_kernel::{EcKind, Kernel, Object, Transfer, Utcb};
+use nova_kernel::{Kernel, Transfer, Utcb};
 use std::alloc::Global;
 
 /// Whether `a` and `b` have the same execution context of number `n`, of a processor that is there, or none.
@@ -78,19 +76,6 @@ fn same_transfer(a: Option<Transfer>, b: Option<Transfer>) -> bool
     }
 }
 
-/// Whether the counts `a` and `b` are equal, or both are none.
-fn same_count(a: Option<u64>, b: Option<u64>) -> bool
-    ensures { OnTrue result (a ≡ b) }
-{
-    match a {
-        None => b.is_none(),
-        Some(count) => match b {
-            None => false,
-            Some(other) => count == other,
-        },
-    }
-}
-
 /// Whether the numbers `a` and `b` are equal, or both are none.
 fn same_number(a: Option<u32>, b: Option<u32>) -> bool
     ensures { OnTrue result (a ≡ b) }
@@ -139,39 +124,13 @@ fn same_semaphore_at(alloc: Global, a: &Kernel, b: &Kernel, n: u32) -> bool
     }
 }
 
-/// Whether the object of number `n` is a virtual CPU.
-fn is_guest(kernel: &Kernel, n: u32) -> bool
-    ensures test { result ≡ is_guest_in (slice_get kernel.now.state.objects n) }
-    ensures there { result ≡ true → IsOf kernel.now.state.objects is_vcpu n }
-{
-    match kernel.object(n).copied() {
-        Some(Object::Ec { kind, .. }) => matches!(kind, EcKind::Vcpu),
-        _ => false,
-    }
-}
-
-/// Whether `a` and `b` have the same stir count of the virtual CPU of number `n`, where it is one.
-fn same_stirs_at(a: &Kernel, b: &Kernel, n: u32) -> bool
-    ensures { OnTrue result (is_guest_in (slice_get a.now.state.objects n) ≡ true → stirs_at a.now.state n ≡ stirs_at b.now.state n) }
-{
-    if !is_guest(a, n) {
-        return true;
-    }
-    if !is_guest(b, n) || a.cpus() == 0 || b.cpus() == 0 {
-        return false;
-    }
-    a.stir(n, 0).0 == b.stir(n, 0).0
-}
-
-/// Whether `a` and `b` have the same at number `n`.
+/// Whether `a` and `b` have the same at number `n`, but for counts.
 fn same_at(alloc: Global, a: &Kernel, b: &Kernel, n: u32) -> bool
     requires first { AreZero a.now.state }
     requires second { AreZero b.now.state }
     ensures { OnTrue result (IsSameAt a.now.state b.now.state n) }
 {
     same_context_at(a, b, n)
-        && same_stirs_at(a, b, n)
-        && same_count(a.ticks(n), b.ticks(n))
         && same_number(a.left(n), b.left(n))
         && same_number(a.identifier(n), b.identifier(n))
         && same_transfer(a.transfer(n), b.transfer(n))
@@ -179,7 +138,7 @@ fn same_at(alloc: Global, a: &Kernel, b: &Kernel, n: u32) -> bool
         && same_semaphore_at(alloc, a, b, n)
 }
 
-/// Whether `a` and `b` have the same at each number below `count`.
+/// Whether `a` and `b` have the same at each number below `count`, but for counts.
 pub(crate) fn same_entries(alloc: Global, a: &Kernel, b: &Kernel, count: u32) -> bool
     requires first { AreZero a.now.state }
     requires second { AreZero b.now.state }

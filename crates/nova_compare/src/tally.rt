@@ -1,8 +1,11 @@
-ghost use Rattle.std.specs.Prelude.{◌≡◌, ◌+◌, ◌-◌, ◌==◌, IfOk, OnOk, map, replicate};
+ghost use Rattle.std.specs.Prelude.{◌≡◌, ◌+◌, ◌-◌, ◌==◌, ℕ, IfOk, OnOk, map, replicate};
 ghost use Rattle.std.specs.Bool.{OnTrue};
 ghost use Rattle.law_sameness.specs.Counts.{counts_after, counts_of, first_stamp, paid, paid_with, renewed, ticked, with_child, with_object};
+ghost use Rattle.law_sameness.specs.States.{AreInStep, IsInStep};
 ghost use Rattle.nova_compare.specs.Vertices.{IsBooted};
 
+use crate::counts::same_count;
+use crate::order::are_in_step;
 use nova_kernel::{Event, EventKind, Kernel, Object};
 use std::alloc::{AllocError, Global};
 use std::marker::Model;
@@ -207,19 +210,6 @@ fn same_numbers(a: &[u64], b: &[u64]) -> bool
     a == b
 }
 
-/// Whether the stamps `a` and `b` are equal, or both are none.
-fn same_stamp(a: Option<u64>, b: Option<u64>) -> bool
-    ensures { OnTrue result (a ≡ b) }
-{
-    match a {
-        None => b.is_none(),
-        Some(stamp) => match b {
-            None => false,
-            Some(other) => stamp == other,
-        },
-    }
-}
-
 /// Whether the lists of stamps `a` and `b` are equal.
 fn same_stamps(a: &[Option<u64>], b: &[Option<u64>]) -> bool
     ensures { OnTrue result (a.now ≡ b.now) }
@@ -228,14 +218,32 @@ fn same_stamps(a: &[Option<u64>], b: &[Option<u64>]) -> bool
         return false;
     }
     for i in 0..a.len() {
-        if !same_stamp(a[i], b[i]) {
+        if !same_count(a[i], b[i]) {
             return false;
         }
     }
     true
 }
 
+/// Whether of any two of `objects` that compete the same one has the lesser stamp in `a` and in `b`.
+#[tactic(auto, using(crate::proofs::Peers::same_in_step))]
+fn same_order(objects: &[Object], a: &[Option<u64>], b: &[Option<u64>]) -> bool
+    ensures { OnTrue result ((m n : ℕ) → IsInStep objects.now a.now b.now m n) }
+{
+    if same_stamps(a, b) {
+        return true;
+    }
+    are_in_step(objects, a, b)
+}
+
 impl Tally {
+    /// Whether the next id is that of `other`, and of any two of `objects` that compete the same one has the lesser stamp.
+    pub(crate) fn is_in_step(&self, other: &Tally, objects: &[Object]) -> bool
+        ensures { OnTrue result (AreInStep objects.now self.now other.now) }
+    {
+        self.next_id == other.next_id && same_order(objects, &self.stamps, &other.stamps)
+    }
+
     /// Whether the same is counted in `other`.
     pub(crate) fn is_same(&self, other: &Tally) -> bool
         ensures { OnTrue result (self.now ≡ other.now) }

@@ -1,14 +1,15 @@
-ghost use Rattle.std.specs.Prelude.{◌≡◌, ◌^◌, ◌<◌, IfOk, option_map};
+ghost use Rattle.std.specs.Prelude.{◌≡◌, ◌^◌, ◌<◌, ℕ, false, IfOk, option_map};
 ghost use Rattle.std.specs.Bool.{OnTrue};
+ghost use Rattle.law_turns.specs.Keeping.{IsKept};
+ghost use Rattle.law_alike.specs.Alike.{AreStampsGiven, IsAlike, TellsNoTicks};
 ghost use Rattle.nova_compare.specs.Steps.{IsNext, IsStepped, IsTurned};
 ghost use Rattle.nova_compare.specs.Vertices.{IsBooted};
 
-use crate::derivations::same_delegations;
-use crate::entries::same_entries;
-use crate::memory::{same_log, same_ram};
-use crate::objects::same_objects;
+use crate::counts::same_counts;
+use crate::reading::are_read_alike;
 use crate::spares::{Spares, copied};
 use crate::tally::{Tally, at_boot};
+use crate::ticks::tells_ticks;
 use crate::times::is_at_rest;
 use nova_kernel::{Event, Kernel, Turn};
 use std::alloc::{AllocError, Global};
@@ -36,7 +37,7 @@ impl Model for Vertex {
 }
 
 /// Drops a value out of line, which keeps the caller's proof small.
-fn let_go<T: Drop>(_value: T) {}
+pub(crate) fn let_go<T: Drop>(_value: T) {}
 
 /// One turn of a processor, for which there is room.
 fn turned(kernel: &mut Kernel, cpu: u32) -> Result<Turn, AllocError>
@@ -76,6 +77,7 @@ impl Vertex {
         ensures { IfOk result (λ v. v ≡ kernel.now.state) }
     {
         law_turns::turns_keep_what_they_find();
+        law_alike::alike_states_have_alike_turns();
         law_sameness::turns_count_by_what_is_read();
         law_sameness::x0_is_always_zero();
         let tally = at_boot(alloc, kernel)?;
@@ -93,6 +95,19 @@ impl Vertex {
     {
         let tally = self.tally.copy(self.alloc)?;
         let kernel = copied(self.alloc, &self.kernel)?;
+        Ok(Vertex {
+            kernel,
+            tally,
+            alloc: self.alloc,
+        })
+    }
+
+    /// Copies the vertex, into a kernel of `spares` where there is one.
+    pub fn copy_with(&self, spares: &mut Spares) -> Result<Vertex, AllocError>
+        ensures { IfOk result (λ v. v ≡ self.now) }
+    {
+        let tally = self.tally.copy(self.alloc)?;
+        let kernel = spares.copy_of(&self.kernel)?;
         Ok(Vertex {
             kernel,
             tally,
@@ -135,6 +150,7 @@ impl Vertex {
         ensures { IfOk result (IsNext self.now cpu) }
     {
         law_turns::turns_keep_what_they_find();
+        law_alike::alike_states_have_alike_turns();
         law_sameness::turns_count_by_what_is_read();
         law_sameness::x0_is_always_zero();
         let Some((kernel, event)) = stepped(spares, &self.kernel, cpu)? else {
@@ -161,17 +177,40 @@ impl Vertex {
         law_sameness::states_that_are_read_and_counted_alike_are_the_same();
         let a = self.kernel();
         let b = other.kernel();
-        let objects = a.objects();
         a.turns() == b.turns()
             && self.tally.is_same(&other.tally)
-            && a.cpus() == b.cpus()
-            && a.consoles() == b.consoles()
             && is_at_rest(a)
             && is_at_rest(b)
-            && same_objects(objects, b.objects())
-            && same_entries(self.alloc, a, b, objects.len() as u32)
-            && same_log(a.log(), b.log())
-            && same_delegations(a, b)
-            && same_ram(a, b)
+            && are_read_alike(self.alloc, a, b)
+            && same_counts(a, b, a.objects().len() as u32)
+    }
+
+    /// Whether the vertex and `other` are seen to be in alike states. They are not seen to be where there are sources, where a processor has
+    /// something to come, and where memory is refused.
+    pub fn is_alike(&self, other: &Vertex) -> bool
+        ensures { OnTrue result (IsAlike self.now other.now) }
+    {
+        law_sameness::states_that_are_read_alike_and_in_step_are_alike();
+        let a = self.kernel();
+        let b = other.kernel();
+        self.tally.is_in_step(&other.tally, a.objects())
+            && is_at_rest(a)
+            && is_at_rest(b)
+            && are_read_alike(self.alloc, a, b)
+    }
+
+    /// Whether the next turn of a processor tells ticks. Where memory is refused, or 2^31 turns were taken, it may say so of one that doesn't.
+    pub fn tells_ticks(&self) -> bool
+        ensures { result ≡ false → (cpu : ℕ) → cpu < self.now.cpus → TellsNoTicks self.now cpu }
+    {
+        tells_ticks(self.alloc, &self.kernel)
+    }
+
+    /// What turns keep holds of the state of the vertex, and its stamps are below the next.
+    pub fn is_kept(&self)
+        ensures kept { IsKept self.now }
+        ensures given { AreStampsGiven self.now }
+    {
+        let _ = &self.kernel;
     }
 }

@@ -1,7 +1,20 @@
 //! `nova_explore`: whether any order of turns leads a scenario to what is asked for.
 #![tactic(auto)]
 
-use nova_explorer::{CommandFault, Exit, explore_main};
+mod exit;
+mod form;
+mod main_call;
+mod numbers;
+mod reader;
+mod request;
+mod telling;
+mod told;
+mod verdict;
+mod word;
+
+use exit::Exit;
+use main_call::explore_main;
+use nova_command::CommandFault;
 use nova_io::{FileDepot, StdSink};
 use std::env;
 use std::process::ExitCode;

@@ -9,15 +9,15 @@ use Rattle.nova_compare.specs.Steps.{IsSuccessor}
 use Rattle.nova_compare.proofs.Places.{place}
 use Rattle.nova_search.specs.declared.edges.Edge.{Edge}
 use Rattle.nova_search.specs.declared.found.Found.{Found}
-use Rattle.nova_search.specs.Edges.{AreTried, AreUpTo, Extends, IsAt, IsEdge, IsLed, IsTried, edge}
-use Rattle.nova_search.specs.Searches.{Grows, IsMore, IsVisited, state_at, state_of, states_of}
+use Rattle.nova_search.specs.declared.merging.Merging.{Merging}
+use Rattle.nova_search.specs.declared.merging.Merging.TheVariants.{Alike, Same}
+use Rattle.nova_search.specs.Edges.{AreTried, AreTurnsDrawn, AreUpTo, Extends, IsAt, IsEdge, IsLed, IsTried, IsTurnDrawn, edge}
+use Rattle.nova_search.specs.Merged.{IsOneAt}
+use Rattle.nova_search.specs.Searches.{Grows, IsMore, state_at, state_of, states_of}
 use Rattle.nova_search.proofs.Growth.{at_front, grows_by, stays_at, still_at}
 
 pub longer : (xs ys : List KernelState) (turns : ℕ) → Grows xs ys turns → length xs ≤ length ys
 longer xs ys turns grows = let whole = ap length grows.whole in let sum = length-append xs grows.more in omega (arith, whole, sum)
-
-pub contains_at : (states : List KernelState) (place : ℕ) (s : KernelState) → IsAt states place s → Contains states s
-contains_at states place s at = (place, at.there, at.is s)
 
 pub same_extends : (es : List Edge) → Extends es es
 same_extends es = record { more = []; whole = sym (append-nil es) }
@@ -152,6 +152,22 @@ module _ (xs ys : List Found) (es : List Edge) (n cpu to : ℕ) (s t : KernelSta
     is = subst (λ (x : KernelState). IsAt (states_of ys) to x) next.state at;
   }))
 
+pub idle_drawn : (xs : List Found) (es : List Edge) (n cpu : ℕ) (s : KernelState) → ((d : KernelState) → state_at xs n d ≡ s) → after s cpu ≡ s →
+    IsTurnDrawn (states_of xs) es (states_of xs) es n cpu
+idle_drawn xs es n cpu s here idle = record { extends = same_extends es; edges = λ up. up; tried = idle_tried xs es n cpu s here idle }
+
+its_at : (m : Merging) (states : List KernelState) (place : ℕ) (s : KernelState) → m ≡ Same → IsOneAt m states place s → IsAt states place s
+its_at Same states place s same at = record { there = at.there; is = at.is }
+its_at Alike states place s same at = absurd (cc)
+
+pub entered_drawn : (m : Merging) → m ≡ Same → (xs ys : List Found) (es fs : List Edge) (n cpu to : ℕ) (s t : KernelState) → n < length xs → ((d : KernelState) → state_at xs n d ≡ s) →
+    IsSuccessor s cpu t → cpu < s.cpus → IsMore xs n cpu t ys → IsOneAt m (states_of ys) to t → fs ≡ es ++ edge n to ∷ [] → IsTurnDrawn (states_of xs) es (states_of ys) fs n cpu
+entered_drawn m same xs ys es fs n cpu to s t less here next there more at pushed = subst (λ (l : List Edge). IsTurnDrawn (states_of xs) es (states_of ys) l n cpu) (sym pushed) (record {
+  extends = record { more = edge n to ∷ []; whole = refl };
+  edges = entered_up_to xs ys es n cpu to s t less here next there more (its_at m (states_of ys) to t same at);
+  tried = entered_tried xs ys es n cpu to s t less here next there more (its_at m (states_of ys) to t same at);
+})
+
 -- turns of the processors so far, and of one more
 pub tried_more : (xs ys : List KernelState) (turns : ℕ) (es fs : List Edge) (n cpu : ℕ) → Grows xs ys turns → Extends es fs → n < length xs → AreTried cpu xs es n →
     IsTried ys fs n cpu → AreTried (cpu + 1) ys fs n
@@ -165,7 +181,14 @@ pub all_tried_on : (xs ys : List KernelState) (turns : ℕ) (es fs : List Edge) 
     AreTried cpus ys fs n
 all_tried_on xs ys turns es fs n cpus grows extends less tried cpu few = tried_on xs ys turns grows es fs n cpu extends less (tried cpu few)
 
-pub tried_by : (xs ys : List Found) (es fs : List Edge) (n cpu : ℕ) (s : KernelState) → n < length xs → IsVisited (states_of xs) (states_of ys) s cpu → Extends es fs →
-    AreTried cpu (states_of xs) es n → IsTried (states_of ys) fs n cpu → AreTried (cpu + 1) (states_of ys) fs n
-tried_by xs ys es fs n cpu s less visited extends tried new =
-    tried_more (states_of xs) (states_of ys) (s.turns + 1) es fs n cpu visited.grows extends (let long = length-map xs state_of in omega (arith, less, long)) tried new
+-- turns of no processor, and of one more
+pub none_drawn : (xs : List KernelState) (es : List Edge) (n : ℕ) → AreTurnsDrawn xs es xs es n 0
+none_drawn xs es n = record { extends = same_extends es; edges = λ up. up; tried = λ cpu less. absurd (omega (arith, less)) }
+
+pub drawn_on : (xs ys zs : List KernelState) (turns : ℕ) (es fs gs : List Edge) (n cpu : ℕ) → Grows ys zs turns → n < length ys → AreTurnsDrawn xs es ys fs n cpu →
+    IsTurnDrawn ys fs zs gs n cpu → AreTurnsDrawn xs es zs gs n (cpu + 1)
+drawn_on xs ys zs turns es fs gs n cpu grows less so_far new = record {
+  extends = extends_on es fs gs so_far.extends new.extends;
+  edges = λ up. new.edges (so_far.edges up);
+  tried = tried_more ys zs turns fs gs n cpu grows new.extends less so_far.tried new.tried;
+}

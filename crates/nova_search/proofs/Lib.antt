@@ -5,6 +5,8 @@ pub mod Nearest
 pub mod Open
 pub mod Drawn
 pub mod Reducing
+pub mod Ones
 pub mod Links
+pub mod Own
 pub mod Going
 pub mod Retaken

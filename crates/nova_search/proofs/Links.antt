@@ -1,16 +1,18 @@
 -- From a state back to the first, by the turns after which states were found.
 use Rattle.std.proofs.Common.{◌≡◌, ◌⊎◌, ℕ, ◌+◌, ◌<◌, ◌≤◌, List, [], ◌∷◌, ◌++◌, length, reverse, refl, ap, sym, subst, ◌∙◌, arith, inl, inr}
 use Rattle.std.specs.Prelude.{slice_index_or}
-use Rattle.std.proofs.lemmas.List.{length-map, map-append, reverse-append}
+use Rattle.std.proofs.lemmas.List.{length-append, length-map, map-append, reverse-append}
 use Rattle.nova_model.specs.State.{KernelState}
 use Rattle.nova_model.specs.Runs.{IsFreeOfIdle, run}
 use Rattle.nova_compare.specs.Steps.{IsSuccessor}
 use Rattle.nova_compare.proofs.Places.{place}
 use Rattle.nova_search.specs.declared.found.Found.{Found}
+use Rattle.nova_search.specs.declared.merging.Merging.{Merging}
+use Rattle.nova_search.specs.Merged.{IsOne, IsOneAt}
 use Rattle.nova_search.specs.Searches.{AreLinked, AreProcessors, IsLink, IsMore, IsWay, state_at, state_of, states_of}
 use Rattle.nova_search.proofs.Growth.{any_default, at_front, state_here}
 
-at_end : (xs : List Found) (f d : Found) → slice_index_or (xs ++ f ∷ []) (length xs) d ≡ f
+pub at_end : (xs : List Found) (f d : Found) → slice_index_or (xs ++ f ∷ []) (length xs) d ≡ f
 at_end [] f d = refl
 at_end (x ∷ xs) f d = at_end xs f d
 
@@ -46,6 +48,16 @@ linked_more xs f link linked = record {
     each_by i d first (inr last) =
         subst (λ (n : ℕ). IsLink (xs ++ f ∷ []) n (slice_index_or (xs ++ f ∷ []) n d)) (sym last)
         (subst (λ (g : Found). IsLink (xs ++ f ∷ []) (length xs) g) (sym (at_end xs f d)) (link_stays xs (f ∷ []) (length xs) f (omega arith) link))
+
+-- a state that is entered stands behind the others
+pub one_at_end : (m : Merging) (xs ys : List Found) (f : Found) (s : KernelState) → ys ≡ xs ++ f ∷ [] → state_of f ≡ s → IsOne m s s → IsOneAt m (states_of ys) (length xs) s
+one_at_end m xs ys f s more same one = subst (λ (l : List Found). IsOneAt m (states_of l) (length xs) s) (sym more) (record {
+  there = let long = length-map (xs ++ f ∷ []) state_of in let sum = length-append xs (f ∷ []) in omega (arith, long, sum);
+  is = λ d. subst (λ (x : KernelState). IsOne m x s) (sym (its d)) one;
+})
+  where
+    its : (d : KernelState) → state_at (xs ++ f ∷ []) (length xs) d ≡ s
+    its d = state_here (xs ++ f ∷ []) (length xs) f d (let sum = length-append xs (f ∷ []) in omega (arith, sum)) (sym (at_end xs f f)) ∙ same
 
 -- a state that is entered after a turn in the one at a place
 pub linked_here : (xs ys : List Found) (place cpu : ℕ) (s t : KernelState) → place < length xs → ((d : KernelState) → state_at xs place d ≡ s) → IsSuccessor s cpu t → cpu < s.cpus →

@@ -5,7 +5,9 @@ use Rattle.std.specs.List.{AllByRecursion}
 use Rattle.std.proofs.lemmas.List.{length-append}
 use Rattle.nova_model.specs.State.{KernelState}
 use Rattle.nova_model.specs.Runs.{after, run}
-use Rattle.nova_search.specs.Searches.{AreByTurns, AreNearest, AreProcessors, Grows, IsBefore, IsExpanded, IsUnderWay}
+use Rattle.nova_search.specs.Merged.{IsApt, IsOne}
+use Rattle.nova_search.specs.Searches.{AreByTurns, AreNearest, AreProcessors, Grows, HasNear, IsBefore, IsExpanded, IsUnderWay}
+use Rattle.nova_search.specs.declared.merging.Merging.{Merging}
 use Rattle.nova_search.proofs.Growth.{any_default, still_at}
 
 abbrev pub turns_at : List KernelState → ℕ → KernelState → ℕ
@@ -57,6 +59,23 @@ by_turns_first k limit states only = subst (λ (l : List KernelState). AreByTurn
   few = λ i d first less. absurd (omega (arith, first, less));
 })
 
+-- none has taken more turns than those that are found behind them
+most_at : (limit : ℕ) (xs ys : List KernelState) (place : ℕ) → AreByTurns limit xs place → place < length xs → ((d : KernelState) → Grows xs ys (turns_at xs place d + 1)) →
+    (i : ℕ) (d : KernelState) → i < length ys → turns_at ys i d ≤ turns_at xs place d + 1
+most_at limit xs ys place are there grows i d less = by_side (side i (length xs))
+  where
+    by_side : (i < length xs) ⊎ (length xs ≤ i) → turns_at ys i d ≤ turns_at xs place d + 1
+    by_side (inl old) = let same = old_at xs ys (turns_at xs place d + 1) i d (grows d) old in let is = are.near there i d old in omega (arith, same, is)
+    by_side (inr new) = let same = new_at xs ys (turns_at xs place d + 1) i d (grows d) new less in omega (arith, same)
+
+pub most_of : (limit : ℕ) (xs ys : List KernelState) (place : ℕ) → AreByTurns limit xs place → place < length xs → ((d : KernelState) → Grows xs ys (turns_at xs place d + 1)) →
+    (d s : KernelState) → Contains ys s → s.turns ≤ turns_at xs place d + 1
+most_of limit xs ys place are there grows d s has =
+    let most = most_at limit xs ys place are there grows has.0 s has.1 in
+    let is = ap (λ (x : KernelState). x.turns) has.2 in
+    let same = ap (λ (x : KernelState). x.turns) (any_default xs place d s there) in
+    omega (arith, most, is, same)
+
 -- where a state was expanded whose turns the limit doesn't use up
 pub by_turns_on : (limit : ℕ) (xs ys : List KernelState) (place : ℕ) → AreByTurns limit xs place → place < length xs →
     ((d : KernelState) → Grows xs ys (turns_at xs place d + 1)) → ((d : KernelState) → turns_at xs place d < limit) → AreByTurns limit ys (place + 1)
@@ -66,13 +85,8 @@ by_turns_on limit xs ys place are there grows few = record {
   few = λ i d first less. few_by i d first less (side i (length xs));
 }
   where
-    -- none of them has taken more turns than the new ones
     most : (i : ℕ) (d : KernelState) → i < length ys → turns_at ys i d ≤ turns_at xs place d + 1
-    most i d less = by_side (side i (length xs))
-      where
-        by_side : (i < length xs) ⊎ (length xs ≤ i) → turns_at ys i d ≤ turns_at xs place d + 1
-        by_side (inl old) = let same = old_at xs ys (turns_at xs place d + 1) i d (grows d) old in let is = are.near there i d old in omega (arith, same, is)
-        by_side (inr new) = let same = new_at xs ys (turns_at xs place d + 1) i d (grows d) new less in omega (arith, same)
+    most = most_at limit xs ys place are there grows
 
     rising : (i j : ℕ) (d : KernelState) → i ≤ j → j < length ys → turns_at ys i d ≤ turns_at ys j d
     rising i j d ordered less = by_side (side j (length xs))
@@ -113,22 +127,23 @@ by_turns_left limit xs place are = record {
   few = are.few;
 }
 
--- an order of few turns leads to a state that was found before
-led_before : (n few place : ℕ) (states : List KernelState) → ((s : KernelState) → Contains states s → s.turns + 1 < few → IsExpanded n states s) →
-    ((i : ℕ) (d : KernelState) → i < length states → turns_at states i d < few → i < place) →
-    (s : KernelState) (order : List ℕ) → AreProcessors n order → s.turns + length order < few → Contains states s → IsBefore states place (run s order)
-led_before n few place states expanded before s [] are less there = record {
+-- an order of few turns leads to a state that is one with one that was found before
+led_before : (m : Merging) (n few place : ℕ) (states : List KernelState) → ((s : KernelState) (cpu : ℕ) → IsApt s → IsApt (after s cpu)) →
+    ((r : KernelState) → Contains states r → r.turns + 1 < few → IsExpanded m n states r) → ((i : ℕ) (d : KernelState) → i < length states → turns_at states i d < few → i < place) →
+    (r s : KernelState) (order : List ℕ) → AreProcessors n order → r.turns + length order < few → Contains states r → IsOne m r s → IsApt s → IsBefore m states place (run s order)
+led_before m n few place states goes_on expanded before r s [] are less there is apt = record {
   its_place = there.0;
-  before = before there.0 s there.1 (subst (λ (x : KernelState). x.turns < few) (sym there.2) (omega (arith, less)));
-  is = there.2;
+  before = before there.0 r there.1 (subst (λ (x : KernelState). x.turns < few) (sym there.2) (omega (arith, less)));
+  is = λ d. subst (λ (x : KernelState). IsOne m x s) (sym (any_default states there.0 d r there.1 ∙ there.2)) is;
 }
-led_before n few place states expanded before s (cpu ∷ order) are less there =
-    let e = expanded s there (omega (arith, less)) in
-    let one = e.turns cpu are.0 in
-    led_before n few place states expanded before (after s cpu) order are.1 (omega (arith, less, one)) (e.each cpu are.0)
+led_before m n few place states goes_on expanded before r s (cpu ∷ order) are less there is apt =
+    let e : HasNear m states (r.turns + 1) (after s cpu) = (expanded r there (omega (arith, less))).each s apt is cpu are.0 in
+    let near = e.few in
+    led_before m n few place states goes_on expanded before e.has.one (after s cpu) order are.1 (omega (arith, less, near)) e.has.there e.has.is (goes_on s cpu apt)
 
-module _ (k : KernelState) (limit : ℕ) (states : List KernelState) (place : ℕ) (is_whole : Bool) (way : IsUnderWay k limit states place is_whole)
-    (by_turns : AreByTurns limit states place) (first : (d : KernelState) → slice_index_or states 0 d ≡ k) where
+module _ (m : Merging) (goes_on : (s : KernelState) (cpu : ℕ) → IsApt s → IsApt (after s cpu)) (k : KernelState) (limit : ℕ) (states : List KernelState) (place : ℕ) (is_whole : Bool)
+    (way : IsUnderWay m k limit states place is_whole) (by_turns : AreByTurns limit states place) (first : (d : KernelState) → slice_index_or states 0 d ≡ k) (same_one : IsOne m k k)
+    (apt : IsApt k) where
   within_limit : (i : ℕ) (d : KernelState) → i < length states → k.turns < turns_at states i d → turns_at states i d ≤ limit
   within_limit zero d there more = let same = ap (λ (s : KernelState). s.turns) (first d) in absurd (omega (arith, same, more))
   within_limit (suc i) d there more = by_turns.few (suc i) d (omega arith) there
@@ -152,11 +167,13 @@ module _ (k : KernelState) (limit : ℕ) (states : List KernelState) (place : �
       by_side (inl is) = is
       by_side (inr is) = let rising = by_turns.rising i j d is less in absurd (omega (arith, rising, short))
 
-  pub nearest : AreNearest k states
+  pub nearest : AreNearest m k states
   nearest = record { each = each }
     where
-      each : (i : ℕ) (d : KernelState) → i < length states → (order : List ℕ) → AreProcessors k.cpus order → k.turns + length order < turns_at states i d → IsBefore states i (run k order)
-      each i d there order are few = led_before k.cpus (turns_at states i d) i states expanded (λ j e less short. earlier_by j e less short) k order are few way.opening
+      each : (i : ℕ) (d : KernelState) → i < length states → (order : List ℕ) → AreProcessors k.cpus order → k.turns + length order < turns_at states i d →
+          IsBefore m states i (run k order)
+      each i d there order are few =
+          led_before m k.cpus (turns_at states i d) i states goes_on expanded (λ j e less short. earlier_by j e less short) k k order are few way.opening same_one apt
         where
           most : turns_at states i d ≤ limit
           most = within_limit i d there (omega (arith, few))
@@ -167,9 +184,9 @@ module _ (k : KernelState) (limit : ℕ) (states : List KernelState) (place : �
           earlier_by : (j : ℕ) (e : KernelState) → j < length states → turns_at states j e < turns_at states i d → j < i
           earlier_by j e less short = earlier i j d there less (let is = ap (λ (s : KernelState). s.turns) (same j e less) in omega (arith, is, short))
 
-          expanded : (s : KernelState) → Contains states s → s.turns + 1 < turns_at states i d → IsExpanded k.cpus states s
+          expanded : (s : KernelState) → Contains states s → s.turns + 1 < turns_at states i d → IsExpanded m k.cpus states s
           expanded s c short =
               let is : slice_index_or states c.0 d ≡ s = same c.0 s c.1 ∙ c.2 in
               let turns = ap (λ (x : KernelState). x.turns) is in
-              subst (λ (x : KernelState). IsExpanded k.cpus states x) is
+              subst (λ (x : KernelState). IsExpanded m k.cpus states x) is
               (way.expanded c.0 d (gone_through i c.0 d there c.1 (omega (arith, turns, short))) (omega (arith, turns, short, most)))

@@ -1,10 +1,12 @@
 -- The states that are open: those from a place on.
 use Rattle.std.proofs.Common.{◌≡◌, ◌⊎◌, ℕ, zero, suc, ◌+◌, ◌-◌, ◌<◌, ◌≤◌, List, [], ◌∷◌, ◌++◌, drop, length, refl, ap, sym, subst, ◌∙◌, arith, inl, inr}
-use Rattle.std.specs.Prelude.{Option, Some, Bool, false, Contains, option_to_list, slice_get, slice_index_or}
+use Rattle.std.specs.Prelude.{Option, Some, Bool, true, false, Contains, option_to_list, slice_index_or}
+use Rattle.std.specs.Bool.{OnTrue}
 use Rattle.std.proofs.lemmas.List.{length-map, map-append}
 use Rattle.nova_model.specs.State.{KernelState}
 use Rattle.nova_search.specs.declared.found.Found.{Found}
-use Rattle.nova_search.specs.Edges.{IsAt}
+use Rattle.nova_search.specs.declared.merging.Merging.{Merging}
+use Rattle.nova_search.specs.Merged.{IsOne, IsOneAt}
 use Rattle.nova_search.specs.Searches.{AreOpen, IsFirstAt, state_of, states_of}
 use Rattle.nova_search.proofs.Nearest.{side}
 
@@ -20,16 +22,6 @@ open_more xs f s n front are most same =
     ∙ ap (λ (l : List KernelState). l ++ state_of f ∷ []) are
     ∙ drop_more (states_of xs) (state_of f) n (let long = length-map xs state_of in omega (arith, most, long))
     ∙ ap (λ (l : List KernelState). drop n l) (sym (map-append state_of xs (f ∷ [])))
-
-got_less : (xs : List KernelState) (i : ℕ) (s : KernelState) → slice_get xs i ≡ Some s → i < length xs
-got_less [] i s is = absurd (cc)
-got_less (x ∷ xs) zero s is = omega arith
-got_less (x ∷ xs) (suc i) s is = let less = got_less xs i s is in omega (arith, less)
-
-got_is : (xs : List KernelState) (i : ℕ) (s d : KernelState) → slice_get xs i ≡ Some s → slice_index_or xs i d ≡ s
-got_is [] i s d is = absurd (cc)
-got_is (x ∷ xs) zero s d is = cc
-got_is (x ∷ xs) (suc i) s d is = got_is xs i s d is
 
 at_drop : (xs : List KernelState) (n i : ℕ) (d : KernelState) → i < length (drop n xs) → slice_index_or xs (n + i) d ≡ slice_index_or (drop n xs) i d
 at_drop xs zero i d less = ap (λ (m : ℕ). slice_index_or xs m d) (let e : 0 + i ≡ i = omega arith in e)
@@ -53,18 +45,25 @@ drop_next [] (suc n) x rest is = absurd (cc)
 drop_next (y ∷ xs) zero x rest is = cc
 drop_next (y ∷ xs) (suc n) x rest is = ap (λ (m : ℕ). drop m (y ∷ xs)) (let e : suc n + 1 ≡ suc (n + 1) = omega arith in e) ∙ drop_next xs n x rest is
 
--- one of those that are open
-pub open_within : (states : List KernelState) (n i : ℕ) (s : KernelState) (front : List KernelState) → AreOpen states n front → slice_get front i ≡ Some s → n + i < length states
-open_within states n i s front are got = in_drop states n i (got_less (drop n states) i s (ap (λ (l : List KernelState). slice_get l i) (sym are) ∙ got))
-
-pub open_at : (states : List KernelState) (n i : ℕ) (s : KernelState) (front : List KernelState) → AreOpen states n front → slice_get front i ≡ Some s → IsAt states (n + i) s
-open_at states n i s front are got = record {
-  there = in_drop states n i (got_less (drop n states) i s there);
-  is = λ d. at_drop states n i d (got_less (drop n states) i s there) ∙ got_is (drop n states) i s d there;
-}
+-- what is seen of one of those that are open
+pub one_open : (m : Merging) (r : Bool) (states : List KernelState) (n i p : ℕ) (s : KernelState) (front : List KernelState) → AreOpen states n front → p ≡ n + i →
+    OnTrue r (IsOneAt m front i s) → OnTrue r (IsOneAt m states p s)
+one_open m false states n i p s front are same seen = tt
+one_open m true states n i p s front are same seen = subst (λ (q : ℕ). IsOneAt m states q s) (sym same) (record {
+  there = in_drop states n i there;
+  is = λ d. subst (λ (x : KernelState). IsOne m x s) (sym (at_drop states n i d there)) (here.is d);
+})
   where
-    there : slice_get (drop n states) i ≡ Some s
-    there = ap (λ (l : List KernelState). slice_get l i) (sym are) ∙ got
+    here : IsOneAt m (drop n states) i s
+    here = subst (λ (l : List KernelState). IsOneAt m l i s) are seen
+
+    there : i < length (drop n states)
+    there = here.there
+
+pub one_here : (m : Merging) (r : Bool) (front : List KernelState) (i : ℕ) (s t : KernelState) → i < length front → ((d : KernelState) → slice_index_or front i d ≡ s) →
+    OnTrue r (IsOne m s t) → OnTrue r (IsOneAt m front i t)
+one_here m true front i s t less here is = record { there = less; is = λ d. subst (λ (x : KernelState). IsOne m x t) (sym (here d)) is }
+one_here m false front i s t less here is = tt
 
 -- the first of them is taken out
 pub record IsTaken (states : List KernelState) (n : ℕ) (s : KernelState) (front : List KernelState) : Type 0 where

@@ -1,10 +1,14 @@
 -- The turns of an order that are taken once more.
 use Rattle.std.proofs.Common.{◌≡◌, ℕ, zero, suc, ◌+◌, ◌<◌, ◌≤◌, List, [], ◌∷◌, drop, length, refl, ap, sym, subst, ◌∙◌, arith}
-use Rattle.std.specs.Prelude.{slice_index_or}
+use Rattle.std.specs.Bool.{OnTrue}
+use Rattle.std.specs.Prelude.{Bool, true, false, IfOk, IfSome, Option, Some, None, Result, Ok, Err, slice_index_or}
+use Rattle.std.proofs.lemmas.List.{length-map}
 use Rattle.nova_model.specs.Runs.{after, run}
 use Rattle.nova_model.specs.State.{KernelState}
 use Rattle.nova_search.specs.declared.found.Found.{Found}
-use Rattle.nova_search.specs.Searches.{AreLinked, AreProcessors, IsWay, state_at}
+use Rattle.nova_search.specs.Merged.{IsOne, IsOneAt}
+use Rattle.nova_search.specs.declared.merging.Merging.{Merging}
+use Rattle.nova_search.specs.Searches.{AreLinked, AreProcessors, IsEnd, IsWay, state_at, state_of, states_of}
 use Rattle.nova_search.proofs.Growth.{at_place}
 
 drop_on : (xs : List ℕ) (i : ℕ) → i < length xs → drop i xs ≡ slice_index_or xs i 0 ∷ drop (i + 1) xs
@@ -67,3 +71,28 @@ processors_of found place k order first way = subst (λ (s : KernelState). ArePr
 pub retaken_to : (found : List Found) (place : ℕ) (k s : KernelState) (order : List ℕ) → ((d : KernelState) → state_at found 0 d ≡ k) →
     ((d : KernelState) → IsWay (state_at found 0 d) (state_at found place d) order) → s ≡ run k order → (d : KernelState) → state_at found place d ≡ s
 retaken_to found place k s order first way is d = (way d).state ∙ ap (λ (x : KernelState). run x order) (first d) ∙ sym is
+
+-- what is seen of the vertex at a place is of the state there
+pub again_one : (m : Merging) (r : Bool) (found : List Found) (place : ℕ) (s t : KernelState) → place < length found → ((d : KernelState) → state_at found place d ≡ s) →
+    OnTrue r (IsOne m s t) → OnTrue r (IsOneAt m (states_of found) place t)
+again_one m true found place s t less is one = record {
+  there = let long = length-map found state_of in omega (arith, less, long);
+  is = λ d. subst (λ (x : KernelState). IsOne m x t) (sym (is d)) one;
+}
+again_one m false found place s t less is one = tt
+
+-- the vertex at a place, where its turns were taken once more
+pub again_if : {E : Type 0} (found : List Found) (place : ℕ) (k : KernelState) (order path : List ℕ) (r : Result (Option KernelState) E) → order ≡ path →
+    ((d : KernelState) → state_at found 0 d ≡ k) → ((d : KernelState) → IsWay (state_at found 0 d) (state_at found place d) path) → IfOk r (IsEnd k order) →
+    IfOk r (λ (o : Option KernelState). IfSome o (λ (s : KernelState). (d : KernelState) → state_at found place d ≡ s))
+again_if found place k order path (Ok (Some s)) same first way is = retaken_to found place k s path first way (is.state ∙ ap (λ (l : List ℕ). run k l) same)
+again_if found place k order path (Ok None) same first way is = tt
+again_if found place k order path (Err e) same first way is = tt
+
+pub again_at : {E : Type 0} (found : List Found) (place : ℕ) (r : Result (Option KernelState) E) (o : Option KernelState) (s : KernelState) →
+    IfOk r (λ (x : Option KernelState). IfSome x (λ (t : KernelState). (d : KernelState) → state_at found place d ≡ t)) → r ≡ Ok o → o ≡ Some s →
+    (d : KernelState) → state_at found place d ≡ s
+again_at found place (Ok x) o s is ok some =
+    let same : x ≡ Some s = cc in
+    subst (λ (y : Option KernelState). IfSome y (λ (t : KernelState). (d : KernelState) → state_at found place d ≡ t)) same is
+again_at found place (Err e) o s is ok some = absurd (cc)

@@ -56,3 +56,15 @@ pub record AreUpTo (states : List KernelState) (edges : List Edge) (place : ℕ)
 pub record Extends (old new : List Edge) : Type 0 where
   pub more : List Edge
   pub whole : new ≡ old ++ more
+
+-- a turn of a processor in the state at a place was tried, and what came of it is an edge
+pub record IsTurnDrawn (old : List KernelState) (before : List Edge) (new : List KernelState) (since : List Edge) (place cpu : ℕ) : Type 0 where
+  pub extends : Extends before since
+  pub edges : AreUpTo old before place → AreUpTo new since place
+  pub tried : IsTried new since place cpu
+
+-- turns of all processors below `n` were
+pub record AreTurnsDrawn (old : List KernelState) (before : List Edge) (new : List KernelState) (since : List Edge) (place n : ℕ) : Type 0 where
+  pub extends : Extends before since
+  pub edges : AreUpTo old before place → AreUpTo new since place
+  pub tried : AreTried n new since place

@@ -1,4 +1,5 @@
 pub use Rattle.nova_model.specs.Runs
+pub mod Merged
 pub mod Searches
 pub mod Reductions
 pub mod Edges

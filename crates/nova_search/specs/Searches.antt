@@ -4,7 +4,9 @@ use Rattle.std.specs.List.{AllByRecursion}
 use Rattle.nova_model.specs.State.{KernelState}
 use Rattle.nova_model.specs.Runs.{IsFreeOfIdle, after, run}
 use Rattle.nova_compare.specs.Steps.{IsSuccessor}
+use Rattle.nova_search.specs.Merged.{HasOne, IsApt, IsOne}
 use Rattle.nova_search.specs.declared.found.Found.{Found}
+use Rattle.nova_search.specs.declared.merging.Merging.{Merging}
 
 -- each processor of an order is below `n`
 abbrev pub AreProcessors : ℕ → List ℕ → Type 0
@@ -33,24 +35,24 @@ pub record IsAlong (k s : KernelState) (order : List ℕ) : Type 0 where
   pub way : IsWay k s order
   pub cpus : s.cpus ≡ k.cpus
 
--- each order after which no more than `limit` turns were taken leads to one of the states
-pub record AreAllWithin (k : KernelState) (limit : ℕ) (states : List KernelState) : Type 0 where
-  pub each : (order : List ℕ) → AreProcessors k.cpus order → k.turns + length order ≤ limit → Contains states (run k order)
+-- each order after which no more than `limit` turns were taken leads to a state that is one with one of the states
+pub record AreAllWithin (m : Merging) (k : KernelState) (limit : ℕ) (states : List KernelState) : Type 0 where
+  pub each : (order : List ℕ) → AreProcessors k.cpus order → k.turns + length order ≤ limit → HasOne m states (run k order)
 
--- each order leads to one of the states
-pub record AreAll (k : KernelState) (states : List KernelState) : Type 0 where
-  pub each : (order : List ℕ) → AreProcessors k.cpus order → Contains states (run k order)
+-- each order leads to one that is
+pub record AreAll (m : Merging) (k : KernelState) (states : List KernelState) : Type 0 where
+  pub each : (order : List ℕ) → AreProcessors k.cpus order → HasOne m states (run k order)
 
--- a state stands before a place
-pub record IsBefore (states : List KernelState) (place : ℕ) (s : KernelState) : Type 0 where
+-- a state that is one with `s` stands before a place
+pub record IsBefore (m : Merging) (states : List KernelState) (place : ℕ) (s : KernelState) : Type 0 where
   pub its_place : ℕ
   pub before : its_place < place
-  pub is : slice_index_or states its_place s ≡ s
+  pub is : (d : KernelState) → IsOne m (slice_index_or states its_place d) s
 
--- nearest first: each order of fewer turns than a state has taken leads to a state before it
-pub record AreNearest (k : KernelState) (states : List KernelState) : Type 0 where
+-- nearest first: each order of fewer turns than a state has taken leads to a state that is one with a state before it
+pub record AreNearest (m : Merging) (k : KernelState) (states : List KernelState) : Type 0 where
   pub each : (place : ℕ) (d : KernelState) → place < length states → (order : List ℕ) → AreProcessors k.cpus order
-      → k.turns + length order < (slice_index_or states place d).turns → IsBefore states place (run k order)
+      → k.turns + length order < (slice_index_or states place d).turns → IsBefore m states place (run k order)
 
 -- the state at a place passes a test, and none before it does
 pub record IsFirstAt (test : KernelState → Bool) (states : List KernelState) (place : ℕ) : Type 0 where
@@ -83,12 +85,27 @@ pub record IsLink (found : List Found) (i : ℕ) (f : Found) : Type 0 where
 pub record AreLinked (found : List Found) : Type 0 where
   pub each : (i : ℕ) (d : Found) → 0 < i → i < length found → IsLink found i (slice_index_or found i d)
 
+-- no two states but the first were found after the same turn: of one processor in one state
+pub record AreOfOwnTurns (found : List Found) : Type 0 where
+  pub each : (i j : ℕ) (d : Found) → 0 < i → i < j → j < length found
+      → (slice_index_or found i d).from ≡ (slice_index_or found j d).from → (slice_index_or found i d).cpu ≡ (slice_index_or found j d).cpu → ⊥
+
 -- ON THE WAY
 
--- the state after a turn of each processor below `n` is among the states, and has at most one turn more
-pub record IsExpanded (n : ℕ) (states : List KernelState) (s : KernelState) : Type 0 where
-  pub each : (cpu : ℕ) → cpu < n → Contains states (after s cpu)
-  pub turns : (cpu : ℕ) → cpu < n → (after s cpu).turns ≤ s.turns + 1
+-- and each was found after a turn in a state at an earlier place than this, or after one of a lower processor in the state at it
+pub record AreOfTurnsBefore (found : List Found) (place its_cpu : ℕ) : Type 0 where
+  pub own : AreOfOwnTurns found
+  pub before : (i : ℕ) (d : Found) → 0 < i → i < length found
+      → ((slice_index_or found i d).from < place) ⊎ (((slice_index_or found i d).from ≡ place) × ((slice_index_or found i d).cpu < its_cpu))
+
+-- one of the states is one with `s`, and has taken at most so many turns
+pub record HasNear (m : Merging) (states : List KernelState) (turns : ℕ) (s : KernelState) : Type 0 where
+  pub has : HasOne m states s
+  pub few : has.one.turns ≤ turns
+
+-- of each state that is one with `s` the state after a turn of each processor below `n` is one with a state of at most one turn more than `s`
+pub record IsExpanded (m : Merging) (n : ℕ) (states : List KernelState) (s : KernelState) : Type 0 where
+  pub each : (t : KernelState) → IsApt t → IsOne m s t → (cpu : ℕ) → cpu < n → HasNear m states (s.turns + 1) (after t cpu)
 
 -- a state was found after a turn of this processor in the state at a place
 pub record IsFoundAfter (f : Found) (place its_cpu : ℕ) (s : KernelState) : Type 0 where
@@ -114,18 +131,17 @@ pub record Grows (old new : List KernelState) (turns : ℕ) : Type 0 where
 pub record Keeps (old new : List KernelState) : Type 0 where
   pub reached : (k : KernelState) → All (IsReached k) old → All (IsReached k) new
 
--- a turn of a processor was tried in a state: the state after it was found
-pub record IsVisited (old new : List KernelState) (s : KernelState) (cpu : ℕ) : Type 0 where
+-- a turn of a processor was tried in a state: from each that is one with it, a state that is one with one that was found comes after it
+pub record IsVisited (m : Merging) (old new : List KernelState) (s : KernelState) (cpu : ℕ) : Type 0 where
   pub grows : Grows old new (s.turns + 1)
   pub keeps : Keeps old new
-  pub there : Contains new (after s cpu)
-  pub turns : (after s cpu).turns ≤ s.turns + 1
+  pub there : (t : KernelState) → IsApt t → IsOne m s t → HasOne m new (after t cpu)
 
 -- turns of all processors below `n` were tried in a state
-pub record AreVisited (old new : List KernelState) (s : KernelState) (n : ℕ) : Type 0 where
+pub record AreVisited (m : Merging) (old new : List KernelState) (s : KernelState) (n : ℕ) : Type 0 where
   pub grows : Grows old new (s.turns + 1)
   pub keeps : Keeps old new
-  pub expanded : IsExpanded n new s
+  pub there : (cpu : ℕ) → cpu < n → (t : KernelState) → IsApt t → IsOne m s t → HasOne m new (after t cpu)
 
 -- States stand by turns. None has taken more than the limit allows, but for the first, nor more than one turn more than the state at a place.
 pub record AreByTurns (limit : ℕ) (states : List KernelState) (place : ℕ) : Type 0 where
@@ -134,8 +150,8 @@ pub record AreByTurns (limit : ℕ) (states : List KernelState) (place : ℕ) : 
   pub few : (i : ℕ) (d : KernelState) → 0 < i → i < length states → (slice_index_or states i d).turns ≤ limit
 
 -- Of the states that were found those before `place` are expanded, but for those that have taken `limit` turns; and where the search is whole, these are too.
-pub record IsUnderWay (k : KernelState) (limit : ℕ) (states : List KernelState) (place : ℕ) (is_whole : Bool) : Type 0 where
+pub record IsUnderWay (m : Merging) (k : KernelState) (limit : ℕ) (states : List KernelState) (place : ℕ) (is_whole : Bool) : Type 0 where
   pub opening : Contains states k
   pub reached : All (IsReached k) states
-  pub expanded : (i : ℕ) (d : KernelState) → i < place → (slice_index_or states i d).turns < limit → IsExpanded k.cpus states (slice_index_or states i d)
-  pub whole : is_whole ≡ true → (i : ℕ) (d : KernelState) → i < place → IsExpanded k.cpus states (slice_index_or states i d)
+  pub expanded : (i : ℕ) (d : KernelState) → i < place → (slice_index_or states i d).turns < limit → IsExpanded m k.cpus states (slice_index_or states i d)
+  pub whole : is_whole ≡ true → (i : ℕ) (d : KernelState) → i < place → IsExpanded m k.cpus states (slice_index_or states i d)

@@ -1,12 +1,16 @@
-ghost use Rattle.std.specs.Prelude.{◌≡◌, ◌+◌, ◌^◌, ◌<◌, ◌≤◌, ℕ, false, length, IfOk, OnOk};
+ghost use Rattle.std.specs.Prelude.{◌≡◌, ◌+◌, ◌^◌, ◌<◌, ◌≤◌, ℕ, false, length, IfOk, IfSome, OnOk};
+ghost use Rattle.std.specs.Bool.{OnTrue};
 ghost use Rattle.nova_model.specs.Runs.{run};
 ghost use Rattle.nova_model.specs.State.{KernelState};
+ghost use Rattle.nova_search.specs.Merged.{IsOneAt};
 ghost use Rattle.nova_search.specs.Searches.{AreLinked, AreProcessors, IsFirst, state_at, states_of};
 
+use crate::following::retake;
 use crate::found::Found;
 use crate::goal::Goal;
+use crate::merging::Merging;
 use crate::path::path_to;
-use nova_compare::Vertex;
+use nova_compare::{Spares, Vertex};
 use nova_kernel::Kernel;
 use std::alloc::{AllocError, Global};
 
@@ -40,6 +44,49 @@ pub fn kernel_at(
     kernel.reserve_log(path.len())?;
     take_turns(&mut kernel, &path)?;
     Ok(kernel)
+}
+
+/// The vertex at a place of what was found from `opening`, made again in kernels of `spares` where there are some.
+pub(crate) fn vertex_at(
+    alloc: Global,
+    opening: &Vertex,
+    spares: &mut Spares,
+    found: &[Found],
+    place: usize,
+) -> Result<Option<Vertex>, AllocError>
+    requires place { place < length found.now }
+    requires linked { AreLinked found.now }
+    requires first { (d : KernelState) → state_at found.now 0 d ≡ opening.now }
+    ensures { IfOk result (λ o. IfSome o (λ vertex. (d : KernelState) → state_at found.now place d ≡ vertex)) }
+{
+    let path = path_to(alloc, found, place)?;
+    retake(opening, spares, &path)
+}
+
+/// Whether the state at a place of what was found from `opening` is seen to be one with that of a vertex. It is made again.
+pub(crate) fn is_one_again(
+    alloc: Global,
+    opening: &Vertex,
+    merging: Merging,
+    spares: &mut Spares,
+    found: &[Found],
+    place: usize,
+    vertex: &Vertex,
+) -> bool
+    requires place { place < length found.now }
+    requires linked { AreLinked found.now }
+    requires first { (d : KernelState) → state_at found.now 0 d ≡ opening.now }
+    ensures { OnTrue result (IsOneAt merging (states_of found.now) place vertex.now) }
+{
+    let Ok(again) = vertex_at(alloc, opening, spares, found, place) else {
+        return false;
+    };
+    let Some(again) = again else {
+        return false;
+    };
+    let is = merging.is_one(&again, vertex);
+    spares.keep(again);
+    is
 }
 
 /// Whether the state at a place of what was found from `opening` is looked for.

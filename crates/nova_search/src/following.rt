@@ -23,7 +23,7 @@ fn go_on(vertex: &mut Vertex, spares: &mut Spares, cpu: u32) -> Result<bool, All
 
 /// Goes along `order`, and says whether it took each turn.
 fn go_along(vertex: &mut Vertex, spares: &mut Spares, order: &[u32]) -> Result<bool, AllocError>
-    requires { vertex.old.turns + length order.now ≤ 2 ^ 31 }
+    requires { 0 < length order.now → vertex.old.turns + length order.now ≤ 2 ^ 31 }
     ensures { IfOk result (λ went. went ≡ true → IsWay vertex.old vertex.new order.now) }
 {
     for cpu in order {
@@ -34,6 +34,24 @@ fn go_along(vertex: &mut Vertex, spares: &mut Spares, order: &[u32]) -> Result<b
     Ok(true)
 }
 
+/// The vertex after the turns of `order` from `opening`, in kernels of `spares` where there are some; none where one of them is of a processor that isn't
+/// there, or is idle. At most 2^31 turns are taken in all.
+pub(crate) fn retake(
+    opening: &Vertex,
+    spares: &mut Spares,
+    order: &[u32],
+) -> Result<Option<Vertex>, AllocError>
+    requires { 0 < length order.now → opening.now.turns + length order.now ≤ 2 ^ 31 }
+    ensures { IfOk result (IsEnd opening.now order.now) }
+{
+    let mut vertex = opening.copy_with(spares)?;
+    if go_along(&mut vertex, spares, order)? {
+        Ok(Some(vertex))
+    } else {
+        Ok(None)
+    }
+}
+
 /// The vertex after the turns of `order` from `opening`; none where one of them is of a processor that isn't there, or is idle. At most 2^31
 /// turns are taken in all.
 pub fn follow(alloc: Global, opening: &Vertex, order: &[u32]) -> Result<Option<Vertex>, AllocError>
@@ -41,10 +59,5 @@ pub fn follow(alloc: Global, opening: &Vertex, order: &[u32]) -> Result<Option<V
     ensures { IfOk result (IsEnd opening.now order.now) }
 {
     let mut spares = Spares::new(alloc);
-    let mut vertex = opening.copy()?;
-    if go_along(&mut vertex, &mut spares, order)? {
-        Ok(Some(vertex))
-    } else {
-        Ok(None)
-    }
+    retake(opening, &mut spares, order)
 }

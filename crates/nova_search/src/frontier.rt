@@ -1,24 +1,30 @@
-ghost use Rattle.std.specs.Prelude.{◌≡◌, ◌^◌, ◌<◌, [], ◌∷◌, ◌++◌, length, option_to_list, slice_get, slice_index_or, None, Some, IfOk, IfSome, OnOk};
+ghost use Rattle.std.specs.Prelude.{◌≡◌, ◌^◌, ◌<◌, [], ◌∷◌, ◌++◌, length, option_to_list, slice_index_or, None, IfOk, IfSome, OnOk};
 ghost use Rattle.std.specs.Bool.{OnTrue};
 ghost use Rattle.nova_model.specs.State.{KernelState};
 ghost use Rattle.nova_compare.specs.Steps.{IsNext};
+ghost use Rattle.nova_search.specs.Merged.{IsOneAt};
+ghost use Rattle.nova_search.specs.Searches.{AreLinked, AreOpen, state_at, states_of};
 
+use crate::again::is_one_again;
+use crate::found::Found;
 use crate::index::Index;
+use crate::merging::Merging;
 use nova_compare::{Spares, Vertex};
 use std::alloc::{AllocError, Global};
 use std::collections::VecDeque;
 use std::marker::Model;
+use std::mem;
 
 /// The most vertices of one hash that a vertex is compared with. One that is not seen to be there is entered once more.
 const MOST_COMPARED: usize = 64;
 
-/// The vertices of what was found and isn't expanded yet, the nearest first. States count turns, so that two of them are equal only where
-/// as many were taken: an index holds those alone that have one turn more than what is expanded.
+/// The vertices of what was found and isn't expanded yet, the nearest first. States count turns, so that two of them are the same only where
+/// as many were taken: an index then holds those alone that have one turn more than what is expanded, and else all that were found.
 #[derive(Drop)]
 pub(crate) struct Frontier {
     vertices: VecDeque<Vertex>,
 
-    /// The last of the vertices.
+    /// The last of what was found.
     index: Index,
 
     /// How many turns were taken in the vertex that was taken out last.
@@ -37,13 +43,6 @@ impl Model for Frontier {
     ghost Value = { List KernelState };
 
     ghost view = { λ f. f.vertices.items };
-}
-
-/// Whether two vertices are seen to be in one state.
-fn is_one(a: &Vertex, b: &Vertex) -> bool
-    ensures { OnTrue result (a.now ≡ b.now) }
-{
-    a.is_same(b)
 }
 
 impl Frontier {
@@ -101,44 +100,102 @@ impl Frontier {
         Ok(())
     }
 
-    /// Takes out the first vertex.
-    pub(crate) fn take(&mut self) -> Option<Vertex>
+    /// Takes out the first vertex. Where states that are the same are one, those of fewer turns are in the index no more.
+    pub(crate) fn take(&mut self, merging: Merging) -> Option<Vertex>
         ensures taken { self.old ≡ option_to_list result ++ self.new }
         ensures none { result ≡ None → self.old ≡ [] }
     {
         let vertex = self.vertices.pop_front()?;
-        if vertex.turns() != self.turns {
+        if merging.draws() && vertex.turns() != self.turns {
             self.turns = vertex.turns();
             self.index = Index::new(self.alloc);
         }
         Some(vertex)
     }
 
-    /// The place of the vertex of this number in the index, where it is seen to be in the same state as another one.
-    fn place_if_same(&self, number: usize, vertex: &Vertex) -> Option<usize>
-        ensures { IfSome result (λ place. slice_get self.now place ≡ Some vertex.now) }
+    /// Whether the state of the vertex at a place is seen to be one with that of another one.
+    fn is_one_here(&self, merging: Merging, place: usize, vertex: &Vertex) -> bool
+        ensures { OnTrue result (IsOneAt merging self.now place vertex.now) }
     {
-        let first = self.vertices.len().checked_sub(self.index.len())?;
-        let place = first.checked_add(number)?;
-        if is_one(self.vertices.get(place)?, vertex) {
-            Some(place)
-        } else {
-            None
+        if place >= self.len() {
+            return false;
         }
+        merging.is_one(self.vertex(place), vertex)
     }
 
-    /// The place of a vertex that is seen to be in the same state as one of this hash.
-    pub(crate) fn find(&self, vertex: &Vertex, hash: u64) -> Option<usize>
-        ensures { IfSome result (λ place. slice_get self.now place ≡ Some vertex.now) }
+    /// Whether the state at a place of what was found from `opening`, of which those from `ahead` on are in the frontier, is seen to be one with that of a
+    /// vertex.
+    fn is_one_at(
+        &self,
+        opening: &Vertex,
+        merging: Merging,
+        spares: &mut Spares,
+        found: &[Found],
+        ahead: usize,
+        place: usize,
+        vertex: &Vertex,
+    ) -> bool
+        requires linked { AreLinked found.now }
+        requires first { (d : KernelState) → state_at found.now 0 d ≡ opening.now }
+        requires frontier { AreOpen (states_of found.now) ahead self.now }
+        ensures { OnTrue result (IsOneAt merging (states_of found.now) place vertex.now) }
     {
+        if place >= ahead {
+            return self.is_one_here(merging, place - ahead, vertex);
+        }
+        place < found.len()
+            && is_one_again(self.alloc, opening, merging, spares, found, place, vertex)
+    }
+
+    /// The place of a state that is seen to be one with that of a vertex of this hash, of what was found from `opening`. Those from `ahead` on are in the
+    /// frontier.
+    fn find_with(
+        &self,
+        opening: &Vertex,
+        merging: Merging,
+        spares: &mut Spares,
+        found: &[Found],
+        ahead: usize,
+        vertex: &Vertex,
+        hash: u64,
+    ) -> Option<usize>
+        requires linked { AreLinked found.now }
+        requires first { (d : KernelState) → state_at found.now 0 d ≡ opening.now }
+        requires frontier { AreOpen (states_of found.now) ahead self.now }
+        ensures { IfSome result (λ place. IsOneAt merging (states_of found.now) place vertex.now) }
+    {
+        let before = found.len().checked_sub(self.index.len())?;
         let mut at = self.index.last(hash);
         for _ in 0..MOST_COMPARED {
             let number = at?;
-            if let Some(place) = self.place_if_same(number, vertex) {
+            let place = before.checked_add(number)?;
+            if self.is_one_at(opening, merging, spares, found, ahead, place, vertex) {
                 return Some(place);
             }
             at = self.index.before(number);
         }
         None
+    }
+
+    /// The same, with kernels that are used again.
+    pub(crate) fn find(
+        &mut self,
+        opening: &Vertex,
+        merging: Merging,
+        found: &[Found],
+        ahead: usize,
+        vertex: &Vertex,
+        hash: u64,
+    ) -> Option<usize>
+        requires linked { AreLinked found.now }
+        requires first { (d : KernelState) → state_at found.now 0 d ≡ opening.now }
+        requires frontier { AreOpen (states_of found.now) ahead self.old }
+        ensures one { IfSome result (λ place. IsOneAt merging (states_of found.now) place vertex.now) }
+        ensures kept { self.new ≡ self.old }
+    {
+        let mut spares = mem::replace(&mut self.spares, Spares::new(self.alloc));
+        let place = self.find_with(opening, merging, &mut spares, found, ahead, vertex, hash);
+        self.spares = spares;
+        place
     }
 }

@@ -1,3 +1,4 @@
+use crate::merging::Merging;
 use nova_compare::Vertex;
 use nova_kernel::{EcState, Kernel, LogByte, State};
 
@@ -77,10 +78,13 @@ fn with_log(hash: u64, log: &[LogByte]) -> u64 {
     hash
 }
 
-/// The hash of the state of `vertex`. States of one hash may differ.
-pub(crate) fn hash_of(vertex: &Vertex) -> u64 {
+/// The hash of the state of `vertex`, the same for states that are one. States of one hash may differ.
+pub(crate) fn hash_of(vertex: &Vertex, merging: Merging) -> u64 {
     let kernel = vertex.kernel();
-    let mut hash = with(FIRST, kernel.turns());
+    let mut hash = match merging {
+        Merging::Same => with(FIRST, kernel.turns()),
+        Merging::Alike => FIRST,
+    };
     for n in 0..kernel.objects().len() as u32 {
         hash = with_object(hash, kernel, n);
     }

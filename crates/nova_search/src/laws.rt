@@ -2,7 +2,9 @@ ghost use Rattle.std.specs.Prelude.{◌≡◌, ◌+◌, ◌<◌, ◌≤◌, ℕ,
 ghost use Rattle.nova_model.specs.Choice.{is_quiet};
 ghost use Rattle.nova_model.specs.State.{KernelState};
 ghost use Rattle.nova_model.specs.Runs.{run};
+ghost use Rattle.nova_search.specs.Merged.{IsOne};
 ghost use Rattle.nova_search.specs.Searches.{AreAllWithin, AreProcessors};
+ghost use Rattle.nova_search.specs.declared.merging.Merging.{Merging};
 ghost use Rattle.nova_search.specs.Reductions.{IsCovered, IsReduction, IsStill, Swaps, Touch};
 
 /// A reduced search expands some states by the turn of one processor alone, where that turn touches nothing that any noted turn of
@@ -16,9 +18,11 @@ pub fn reduced_searches_are_complete()
         → Contains states (run s order) }
 {}
 
-/// A test of a state and a processor that fails in every state that was found fails after every order within the limit.
+/// A test of a state and a processor that fails in every state that was found fails after every order within the limit, where it says the same of states
+/// that are one.
 pub fn what_is_in_no_state_is_in_no_order()
-    ensures { (test : KernelState → ℕ → Bool) (k : KernelState) (limit : ℕ) (states : List KernelState) → AreAllWithin k limit states
+    ensures { (m : Merging) (test : KernelState → ℕ → Bool) (k : KernelState) (limit : ℕ) (states : List KernelState) → AreAllWithin m k limit states
+        → ((s t : KernelState) (cpu : ℕ) → IsOne m s t → test s cpu ≡ test t cpu)
         → ((s : KernelState) (cpu : ℕ) → Contains states s → cpu < k.cpus → test s cpu ≡ false)
         → (order : List ℕ) (cpu : ℕ) → AreProcessors k.cpus order → k.turns + length order ≤ limit → cpu < k.cpus → test (run k order) cpu ≡ false }
 {}

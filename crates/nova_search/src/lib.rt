@@ -12,6 +12,7 @@ mod goal;
 mod hash;
 mod index;
 mod laws;
+mod merging;
 mod path;
 
 pub use again::{first_goal, kernel_at};
@@ -23,4 +24,5 @@ pub use goal::{Goal, NoGoal};
 pub use laws::{
     quiet_ends_are_found, reduced_searches_are_complete, what_is_in_no_state_is_in_no_order,
 };
+pub use merging::Merging;
 pub use path::path_to;

@@ -117,7 +117,7 @@ class Wrong(unittest.TestCase):
 
     def test_kept_answers_that_are_wrong_are_found(self) -> None:
         for name, edit, said in (
-            ("race", "s/^states .*/states 7/", "'states 7' in place of 'states 1029'"),
+            ("race", "s/^states .*/states 7/", "'states 7' in place of 'states 329'"),
             ("race", "s/^end 2 /end 3 /", "outcome 2 is wanted"),
             ("race", "s/^0 4$/0 3/", "the report of the order that is told doesn't say so"),
             ("mutex", "s/^never all/never within 9/", "status 0, where its answer has 9"),
@@ -179,7 +179,7 @@ class Ends(unittest.TestCase):
 
     def test_what_is_not_written_and_memory_that_is_refused(self) -> None:
         self.assertEqual(self.ended('exec "$0" race.nova ends >/dev/full'), (6, "", "nova_explore: write fault\n"))
-        self.assertEqual(self.ended('ulimit -v 9000; exec "$0" race.nova ends'), (8, "", "nova_explore: out of memory\n"))
+        self.assertEqual(self.ended('ulimit -v 9000; exec "$0" revoking.nova ends'), (8, "", "nova_explore: out of memory\n"))
 
     def test_options_stand_anywhere(self) -> None:
         for words in ("--turns 30 race.nova blocked", "race.nova --turns=30 blocked", "race.nova blocked --turns 0x1e", "/dev/stdin blocked --turns 30 <race.nova"):
@@ -203,7 +203,7 @@ class Tool(Asking):
 
     def test_answers_are_told(self) -> None:
         for words, status, said in (
-            (("race.nova", "ends"), 0, "2 outcomes; each order that ends a run, however long, ends it in one of them (1,029 states)"),
+            (("race.nova", "ends"), 0, "2 outcomes; each order that ends a run, however long, ends it in one of them (329 states)"),
             (("hello.nova", "ends"), 0, "1 outcome; each order that ends a run, however long, ends it so"),
             (("race.nova", "text", "0", "1"), 1, "after 50 turns in 5 lines: race.orders/found.order"),
             (("mutex.nova", "text", "0", "1"), 0, 'console 0 shows "1" first in no order, however long'),

@@ -1,10 +1,13 @@
 use Rattle.law_alike.proofs.Choosing.{same_choice}
 use Rattle.law_alike.proofs.Given.{given_after, reached_given}
-use Rattle.law_alike.proofs.Turns.{events_alike, reached_alike, runs_alike, traces_alike, turns_alike}
+use Rattle.law_alike.proofs.Turns.{actors_alike, events_alike, reached_alike, runs_alike, traces_alike, turns_alike}
 use Rattle.law_alike.proofs.laws.alike_states_have_alike_turns.Goals as goal
 
 pub returns-clause-chosen : goal.returns-clause-chosen
 returns-clause-chosen c = same_choice
+
+pub returns-clause-actors : goal.returns-clause-actors
+returns-clause-actors c = actors_alike
 
 pub returns-clause-events : goal.returns-clause-events
 returns-clause-events c = events_alike

@@ -13,7 +13,7 @@ pub loop-i-preserved : goal.loop-i-preserved
 loop-i-preserved c =
     let less = c.loop-i-test.true in
     let long = c.if-a-b.false in
-    let same : slice_index_or c.args.a.now c.loop-i.i none ≡ slice_index_or c.args.b.now c.loop-i.i none = c.if-not-same_stamp.ensures in
+    let same : slice_index_or c.args.a.now c.loop-i.i none ≡ slice_index_or c.args.b.now c.loop-i.i none = c.if-not-same_count.ensures in
     let here : slice_get c.args.a.now c.loop-i.i ≡ slice_get c.args.b.now c.loop-i.i =
     slice_get-get_or c.args.a.now c.loop-i.i none less ∙ ap (λ (o : Option ℕ). Some o) same ∙ sym (slice_get-get_or c.args.b.now c.loop-i.i none (omega (arith, less, long))) in
     below_on (λ (n : ℕ). slice_get c.args.a.now n ≡ slice_get c.args.b.now n) c.loop-i.i c.loop-i.invariant here

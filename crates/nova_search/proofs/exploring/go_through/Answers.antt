@@ -1,14 +1,15 @@
 use Rattle.std.proofs.Common.{rules, ◌≡◌, ◌+◌, List, true, false, Some, None, refl, arith, subst, sym}
 use Rattle.std.proofs.lemmas.List.{length-map}
 use Rattle.nova_model.specs.State.{KernelState}
+use Rattle.nova_search.specs.declared.exploring.Passage.TheVariants.{Met, Passed, Ticks}
 use Rattle.nova_search.specs.Searches.{AreOpen, state_of, states_of}
-use Rattle.nova_search.proofs.Going.{ended_by, first_so, going_first, none_so, seen_goal, seen_on}
+use Rattle.nova_search.proofs.Going.{ended_by, first_so, going_first, none_so, seen_goal, seen_on, seen_ticks}
 use Rattle.nova_search.proofs.Open.{none_open, taken_by}
 use Rattle.nova_search.proofs.exploring.go_through.Goals as goal
 
 pub loop-place-init : goal.loop-place-init
 loop-place-init g c = record {
-  going = going_first (g.G.Goal.met c.args.goal.now) c.args.opening.now c.args.limit _ _ c.in_ok-begin.ensures.found c.requires.edges;
+  going = going_first c.args.merging (g.G.Goal.met c.args.goal.now) c.args.opening.now c.args.limit _ _ c.in_ok-begin.ensures.found c.requires.edges;
   frontier = c.in_ok-begin.ensures.frontier;
 }
 
@@ -37,27 +38,39 @@ pub returns-in_default : goal.returns-in_default
 returns-in_default g c =
     let none : c.take.result ≡ None = search rules in
     let many = none_open c.loop-place.found.items c.loop-place.place c.loop-place.frontier c.loop-place.invariant.frontier (c.take.ensures.none none) in
-    ended_by (g.G.Goal.met c.args.goal.now) c.args.opening.now c.args.limit c.args.most c.loop-place.found.items c.loop-place.edges.items c.loop-place.place c.loop-place.is_whole
-    c.loop-place.invariant.going (record { goal = None; is_over = true; is_whole = c.loop-place.is_whole })
-    (none_so (g.G.Goal.met c.args.goal.now) (states_of c.loop-place.found.items) c.loop-place.place
+    ended_by c.args.merging (g.G.Goal.met c.args.goal.now) c.args.opening.now c.args.limit c.args.most c.loop-place.found.items c.loop-place.edges.items c.loop-place.place
+    c.loop-place.is_whole c.loop-place.invariant.going c.states_are_one.ensures.apt (c.states_are_one.ensures.reflexive c.args.merging c.args.opening.now) c.is_apt.ensures
+    (record { goal = None; is_over = true; is_whole = c.loop-place.is_whole; tells_ticks = false })
+    (λ told. none_so (g.G.Goal.met c.args.goal.now) (states_of c.loop-place.found.items) c.loop-place.place
     (let long = length-map c.loop-place.found.items state_of in omega (arith, long, many)) c.loop-place.invariant.going.none)
-    (λ over. many) refl (λ goal cut. absurd (cc))
+    (λ over. many) refl (λ told goal cut. absurd (cc)) (λ same. refl)
 
-pub returns-in-None : goal.returns-in-None
-returns-in-None g c =
-    let none : c.in_ok-stays.field-0 ≡ None = search rules in
-    let seen = seen_goal (g.G.Goal.met c.args.goal.now) c.args.opening.now c.args.limit c.see-seen.new.found.items c.see-seen.new.edges.items c.loop-place.place c.loop-place.is_whole
-    c.in_ok-stays.field-0 (c.in_ok-stays.ensures.seen c.args.opening.now c.loop-place.invariant.going) none in
-    ended_by (g.G.Goal.met c.args.goal.now) c.args.opening.now c.args.limit c.args.most c.see-seen.new.found.items c.see-seen.new.edges.items c.loop-place.place c.loop-place.is_whole
-    seen.0 (record { goal = Some c.loop-place.place; is_over = false; is_whole = c.loop-place.is_whole })
-    (first_so (g.G.Goal.met c.args.goal.now) c.see-seen.new.found.items c.loop-place.place seen.2 seen.1 seen.0.none)
-    (λ over. absurd (cc)) refl (λ goal cut. absurd (cc))
+pub returns-in-Ticks : goal.returns-in-Ticks
+returns-in-Ticks g c =
+    let ticks : c.in_ok-stays.field-0 ≡ Ticks = search rules in
+    let seen = seen_ticks c.args.merging (g.G.Goal.met c.args.goal.now) c.args.opening.now c.args.limit c.see-seen.new.found.items c.see-seen.new.edges.items c.loop-place.place
+    c.loop-place.is_whole c.in_ok-stays.field-0 c.in_ok-stays.ensures.seen ticks in
+    ended_by c.args.merging (g.G.Goal.met c.args.goal.now) c.args.opening.now c.args.limit c.args.most c.see-seen.new.found.items c.see-seen.new.edges.items c.loop-place.place
+    c.loop-place.is_whole seen.0 c.states_are_one.ensures.apt (c.states_are_one.ensures.reflexive c.args.merging c.args.opening.now) c.is_apt.ensures
+    (record { goal = None; is_over = false; is_whole = c.loop-place.is_whole; tells_ticks = true })
+    (λ told. absurd (cc)) (λ over. absurd (cc)) refl (λ told goal cut. absurd (cc)) (λ same. absurd (let alike = seen.1 in cc))
+
+pub returns-in-Met : goal.returns-in-Met
+returns-in-Met g c =
+    let met : c.in_ok-stays.field-0 ≡ Met = search rules in
+    let seen = seen_goal c.args.merging (g.G.Goal.met c.args.goal.now) c.args.opening.now c.args.limit c.see-seen.new.found.items c.see-seen.new.edges.items c.loop-place.place
+    c.loop-place.is_whole c.in_ok-stays.field-0 c.in_ok-stays.ensures.seen met in
+    ended_by c.args.merging (g.G.Goal.met c.args.goal.now) c.args.opening.now c.args.limit c.args.most c.see-seen.new.found.items c.see-seen.new.edges.items c.loop-place.place
+    c.loop-place.is_whole seen.0 c.states_are_one.ensures.apt (c.states_are_one.ensures.reflexive c.args.merging c.args.opening.now) c.is_apt.ensures
+    (record { goal = Some c.loop-place.place; is_over = false; is_whole = c.loop-place.is_whole; tells_ticks = false })
+    (λ told. first_so (g.G.Goal.met c.args.goal.now) c.see-seen.new.found.items c.loop-place.place seen.2 seen.1 seen.0.none)
+    (λ over. absurd (cc)) refl (λ told goal cut. absurd (cc)) (λ same. refl)
 
 pub loop-place-preserved : goal.loop-place-preserved
 loop-place-preserved g c =
-    let some : c.in_ok-stays.field-0 ≡ Some c.in-Some-2.stays = search rules in
+    let some : c.in_ok-stays.field-0 ≡ Passed c.in-Passed.stays = search rules in
     record {
-      going = seen_on (g.G.Goal.met c.args.goal.now) c.args.opening.now c.args.limit c.see-seen.new.found.items c.see-seen.new.edges.items c.loop-place.place c.loop-place.is_whole
-          c.in-Some-2.stays c.in_ok-stays.field-0 (c.in_ok-stays.ensures.seen c.args.opening.now c.loop-place.invariant.going) some;
+      going = seen_on c.args.merging (g.G.Goal.met c.args.goal.now) c.args.opening.now c.args.limit c.see-seen.new.found.items c.see-seen.new.edges.items c.loop-place.place
+          c.loop-place.is_whole c.in_ok-stays.field-0 c.in_ok-stays.ensures.seen c.in-Passed.stays some;
       frontier = subst (λ (f : List KernelState). AreOpen (states_of c.see-seen.new.found.items) (c.loop-place.place + 1) f) (sym c.let_go.ensures) c.in_ok-stays.ensures.frontier;
     }

@@ -7,4 +7,4 @@ pub returns-then-is_whole : goal.returns-then-is_whole
 returns-then-is_whole c =
     let s = c.args.vertex.now in
     let is : c.quiet.result ≡ is_quiet s = search rules in
-    whole_if c.args.is_whole c.quiet.result s (search rules) is (c.quiet_is_every_processor_idle.ensures s).0
+    whole_if c.args.merging c.args.is_whole c.quiet.result s (search rules) is (λ t one. c.states_are_one.ensures.quiet c.args.merging s t one)

@@ -8,7 +8,8 @@ loop-cpu-init c = along_none c.args.vertex.now c.args.vertex.now refl
 
 pub go_on-requires : goal.go_on-requires
 go_on-requires c =
-    few_along c.args.vertex.now c.loop-cpu.vertex c.args.order.now c.loop-cpu.cpu-index 2147483648 c.loop-cpu.invariant c.loop-cpu-test.true c.requires
+    few_along c.args.vertex.now c.loop-cpu.vertex c.args.order.now c.loop-cpu.cpu-index 2147483648 c.loop-cpu.invariant c.loop-cpu-test.true
+    (c.requires (let less = c.loop-cpu-test.true in omega (arith, less)))
 
 pub loop-cpu-preserved : goal.loop-cpu-preserved
 loop-cpu-preserved c =
