@@ -2,3 +2,5 @@ pub mod Trailing
 pub mod Numbered
 pub mod Settled
 pub mod Sole
+pub mod MemoryRights
+pub mod Causing

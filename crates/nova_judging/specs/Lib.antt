@@ -1,5 +1,6 @@
 pub use Rattle.nova_naming.specs.Statements
 pub use Rattle.nova_naming.specs.Labels
+pub mod Causes
 pub mod Labelled
 pub mod Trails
 pub mod Roles
