@@ -17,7 +17,7 @@ MUTANTS = "## Mutants"
 # What has a row for each of its clauses or fields: the top calls, and what one of them says of a run.
 WHOLE = (
     ("nova_main", "crates/nova_top/src/main_call.rt"),
-    ("policy_main", "crates/nova_policy_top/src/main_call.rt"),
+    ("policy_main", "crates/nova_policy/src/main_call.rt"),
     ("IsRun", "crates/nova_answers/specs/Runs.antt"),
 )
 LINK = re.compile(r"\[`([^`]+)`\]\(\.\./(crates/[^)#]+)\)([^\[]*)")

@@ -13,6 +13,7 @@ from scenarios import (
     COMMON,
     CONSOLE,
     CONTEXT,
+    FRAMES,
     HANDLER,
     LENT_PAGE,
     OWN,
@@ -21,6 +22,7 @@ from scenarios import (
     SHARED,
     SOURCES,
     STARTUP_AT,
+    VIEW,
     Fixed,
     SetUp,
     call,
@@ -37,6 +39,9 @@ SPINS = [li(9, 170), "spin: addi x9, x9, -1", "bne x9, x0, spin"]  # longer than
 GIVES_ON = message([(word("mem", LENT_PAGE, 0, 1), COMMON[1] << 12 | 1)]) + call(0, 422, 0) + ["ebreak"]  # the root gives the page on to the other side
 WAITS = call(12, 3 + 1, 1)  # the root waits for the source of the side's processor
 ONE_MORE = call(6, 203, 0, 0) + ["ebreak"]  # the root makes a semaphore, when the side is there
+WHICH, TWICE, PLACES = VIEW[0] + 5, VIEW[0] + 4, (0x200, 0x201)  # pages of the side: that of the word, the one that it gives itself, and where
+SWAPS = [li(7, (FRAMES[0] + 5) * 4096), li(6, (PLACES[0] ^ PLACES[1]) << 12), "sw x6, 0(x7)", "ebreak"]  # the root writes the word
+WIPES = ["lui x5, 0xfffff", *(f"sw x0, {4 * place}(x5)" for place in range(124, 128)), "addi x6, x0, 0", "addi x9, x0, 0"]
 
 
 def at(page: int, line: str) -> list[str]:
@@ -62,6 +67,22 @@ class Giver(Fixed):
     def __init__(self, side: int, lines: list[str], once: list[str] | None = None) -> None:
         super().__init__(side, lines, once)
         self.gives = message([(word("mem", COMMON[side], 0, 1), LENT_PAGE << 12 | 1)])
+
+
+class Forgetful(Taker):
+    """A side that gives itself a page twice, in the order that a word in its memory says, and wipes that away; its second thread looks one of them up again and again."""
+
+    def __init__(self, side: int, lines: list[str]) -> None:
+        gives = message([(word("mem", TWICE, 0, 7), place << 12 | 1) for place in PLACES])
+        swaps = [line for place in (127, 125) for line in (f"lw x6, {4 * place}(x5)", "xor x6, x6, x9", f"sw x6, {4 * place}(x5)")]
+        super().__init__(side, lines, at(WHICH, "lw x9, 0(x7)") + ["sw x0, 0(x7)"] + gives + swaps + call(0, PORTAL, 0) + WIPES)
+
+    def serves(self) -> list[str]:
+        return WIPES + super().serves()
+
+    def program(self, length: int) -> list[str]:
+        looks = call(12, SHARED, 1) + ["look:"] + call(8, word("mem", PLACES[0], 0, 0)) + self.told() + call(12, SHARED, 2, 1) + ["j look"]
+        return super().program(length) if length > 6 else looks
 
 
 @dataclass(frozen=True)
@@ -163,6 +184,14 @@ LEAKS = {
         SPINS + call(7, word("mem", COMMON[0], 0, 7), 0),
         elsewhere=(["ebreak"], GIVES_ON),
         handlers=(Giver, Taker),
+        revokes=True,
+    ),
+    "order": Leak(
+        "of two ranges that the side made of one, and takes back, the newer one goes first: which that is comes of what was in its memory once",
+        frozenset({"AreDerivedAlike.order"}),
+        call(12, SHARED, 1) + call(7, word("mem", TWICE, 0, 7), 0),
+        root=(["ebreak"], SWAPS),
+        handlers=(Forgetful, Fixed),
         revokes=True,
     ),
     "creates": Leak(

@@ -23,9 +23,10 @@ class State:
         self.kinds = {0: "pd"} | {int(line[1]): "sm" for line in lines if line[0] == "sm"}
         self.homes: dict[int, tuple[int, int]] = {}  # the domain and the processor of the sides' execution contexts
         self.made = [made_for(domain, lines) for domain in (self.first, self.second)]
+        acted = {int(line[3]): int(line[2]) for line in lines if line[0] == "at"}
         for domain, cpu, made in ((self.first, 1, self.made[0]), (self.second, 2, self.made[1])):
             self.kinds |= dict(zip(made, KINDS))
-            self.homes |= {n: (domain, 3 - cpu if n > domain + 6 else cpu) for n, kind in zip(made, KINDS) if kind == "ec"}
+            self.homes |= {n: (domain, acted.get(n, 3 - cpu if n > domain + 6 else cpu)) for n, kind in zip(made, KINDS) if kind == "ec"}
         self.capabilities = [Capability(line) for line in lines if line[0] == "cap"]
         self.by_number = {capability.number: capability for capability in self.capabilities}
         self.sources = [(int(line[2]), int(line[3])) for line in lines if line[0] == "source"]  # processor and semaphore

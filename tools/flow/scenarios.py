@@ -16,6 +16,7 @@ LENT_PAGE = 0x160  # where the root has a page that a side gave it
 FAR = 9_000_000  # a moment that no run reaches: each processor has a source, so that it is never idle
 SOURCES = 3
 OWN, HANDLER, PORTAL, SHARED, LENT, CONTEXT, SERVER, STARTUP_AT = 1, 2, 3, 4, 6, 7, 8, 16  # selectors of a side's domain
+SECOND = {"stranger": (1, 1, 0x504), "away": (0, 2, 0x502), "order": (0, 1, 0x504)}  # leaks in which a side has a second thread: the side, the processor, what pays
 ALL, ALL_PAGES = (20 << 7) | (31 << 2) | 3, (20 << 7) | (7 << 2) | 1
 STARTUP = ["lui x5, 0xfffff", "sw x10, 28(x5)", "addi x6, x0, 2", "sw x6, 16(x5)", "sw x0, 0(x5)", "addi x17, x0, 1", "ecall"]
 
@@ -283,6 +284,7 @@ class SetUp:
 
     def __init__(self, walled: bool = False, leak: str = "", sources: tuple[str, ...] = (), rings: str = "own") -> None:
         self.walled, self.leak, self.rings = walled, leak, "root" if leak == "woken" else rings
+        self.second = SECOND.get(leak, (None, 0, 0))
         self.sources = sources or tuple(f"source {cpu} {FAR} 1 1" for cpu in range(SOURCES))
 
     def semaphore(self, side: int) -> int:
@@ -300,7 +302,7 @@ class SetUp:
             items += [(word("obj", self.semaphore(side), 0, 3), SHARED), (word("obj", s + 6, 0, 1), CONTEXT)]
         if self.leak == "ticks":
             items = items[:-1] + ([(word("obj", 426, 0, 1), CONTEXT)] if side == 0 else [])
-        if (self.leak, side) in (("stranger", 1), ("away", 0)):
+        if side == self.second[0]:
             items.append((word("obj", s + 8, 0, 4), STARTUP_AT + 1))
         if self.leak == "answers":
             items.append((word("obj", 211 + 2 * side, 0, 2), SERVER))
@@ -316,9 +318,10 @@ class SetUp:
         lines += call(0, s + 2, 0)
         lines += call(5, s + 3, 0, s + 1, 0, at + 0x100) + call(11, s + 3, at + 0x1000) + call(5, s + 4, 0, s + 1, 0, at + 0x200)
         lines += call(3, s + 5, s, 0x100 + cpu, 0, STARTUP_AT) + call(4, s + 6, 0, s + 5, 0x503)
-        if (self.leak, side) in (("stranger", 1), ("away", 0)):  # a thread of this side's on the other's processor
-            lines += call(3, s + 7, s, 2 - side, 0, 0) + call(5, s + 8, 0, s + 7, 0, at + 0x100) + call(11, s + 8, at + 0x3000)
-            lines += call(3, s + 9, s, 0x100 + 2 - side, 0, STARTUP_AT + 1) + call(4, s + 10, 0, s + 9, 0x504 if side else 0x502)
+        whose, where, pays = self.second
+        if side == whose:
+            lines += call(3, s + 7, s, where, 0, 0) + call(5, s + 8, 0, s + 7, 0, at + 0x100) + call(11, s + 8, at + 0x3000)
+            lines += call(3, s + 9, s, 0x100 + where, 0, STARTUP_AT + 1) + call(4, s + 10, 0, s + 9, pays)
         lines += message([(range_word, place << 12 | 1) for range_word, place in self.items(side)]) + call(0, s + 2, 0)
         if self.leak == "ancestor" and side == 0:  # and the root gives it to the other side
             lines += message([(word("mem", LENT_PAGE, 0, 1), COMMON[0] << 12 | 1)]) + call(0, s + 2, 0)

@@ -10,4 +10,5 @@ mod Answering
 mod Alike
 mod Numbered
 mod Telling
-mod Weaker
+mod Deriving
+mod Working

@@ -4,5 +4,6 @@ pub mod Tests
 pub mod Leaks
 pub mod Premises
 pub mod Tables
+pub mod Deriving
 pub mod Working
 pub mod Lines

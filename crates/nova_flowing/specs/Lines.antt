@@ -1,4 +1,4 @@
--- Lines that tell of each side whether the premises hold, and until when it is at work, and neither gives nor revokes.
+-- Lines that tell of each side whether the premises hold, and until when it is at work.
 use Rattle.std.specs.Prelude.{ℕ, ◌==◌, ◌&&◌, Bool, not, if◌then◌else◌, List, [], ◌++◌, codes, decimal, flat_map, Option, Some, None}
 use Rattle.std.specs.List.{enumerate_from, position, range_with_len}
 use Rattle.nova_model.specs.State.{KernelState}
@@ -8,12 +8,14 @@ use Rattle.nova_naming.specs.Statements.{Stated}
 use Rattle.nova_ties.specs.Ties.{has_label, is_place}
 use Rattle.nova_flowing.specs.Premises.{verdict_by}
 use Rattle.nova_flowing.specs.Tables.{home_by, others_by, own_by, part_by}
-use Rattle.nova_flowing.specs.Working.{first_lapse}
+use Rattle.nova_flowing.specs.Working.{work_by}
 use Rattle.nova_flowing.specs.declared.deciding.Verdict.{Verdict}
 use Rattle.nova_flowing.specs.declared.deciding.Verdict.TheVariants.{Own, Waits, Fails}
 use Rattle.nova_flowing.specs.declared.lapse.Lapse.{Lapse}
+use Rattle.nova_flowing.specs.declared.lapse.Work.{Work}
 use Rattle.nova_flowing.specs.declared.lapse.LapseKind.{LapseKind}
 use Rattle.nova_flowing.specs.declared.lapse.LapseKind.TheVariants.{Creates, Gives, Revokes}
+use Rattle.nova_flowing.specs.declared.leak.Leak.{Leak}
 use Rattle.nova_flowing.specs.declared.leak.Field.{Field}
 use Rattle.nova_flowing.specs.declared.leak.Field.TheVariants as field
 use Rattle.nova_flowing.specs.declared.leak.Place.{Place}
@@ -46,6 +48,7 @@ field_word field.Schedules = codes "HasHome.schedules"
 field_word field.Rings = codes "HasHome.rings"
 field_word field.Others = codes "IsDivided.others"
 field_word field.Creates = codes "IsDivided.creates"
+field_word field.Derives = codes "DerivesWithin"
 
 -- what it fails of
 abbrev pub place_text : Place → List ℕ
@@ -61,20 +64,25 @@ home_text C cpu = if C cpu then codes " " ++ decimal cpu else []
 abbrev pub homes_text : (ℕ → Bool) → ℕ → List ℕ
 homes_text C cpus = flat_map (home_text C) (range_with_len 0 cpus)
 
--- until when it is at work, and neither gives nor revokes
-abbrev pub lapse_text : ℕ → ℕ → LapseKind → List ℕ
-lapse_text turn ec Creates = codes " at work until turn " ++ (decimal turn ++ (codes ": ec " ++ (decimal ec ++ (codes " creates" ++ line_feed))))
-lapse_text turn ec Gives = codes " at work until turn " ++ (decimal turn ++ (codes ": ec " ++ (decimal ec ++ (codes " gives" ++ line_feed))))
-lapse_text turn ec Revokes = codes " at work until turn " ++ (decimal turn ++ (codes ": ec " ++ (decimal ec ++ (codes " revokes" ++ line_feed))))
+-- why it may not revoke
+abbrev pub leak_text : Option Leak → List ℕ
+leak_text None = line_feed
+leak_text (Some leak) = codes " " ++ (field_word leak.field ++ place_text leak.place)
 
-abbrev pub work_text : Option Lapse → List ℕ
-work_text None = codes " at work to the end" ++ line_feed
-work_text (Some l) = lapse_text l.turn l.ec l.kind
+-- until when it is at work
+abbrev pub lapse_text : ℕ → ℕ → Option Leak → LapseKind → List ℕ
+lapse_text turn ec leak Creates = codes " at work until turn " ++ (decimal turn ++ (codes ": ec " ++ (decimal ec ++ (codes " creates" ++ line_feed))))
+lapse_text turn ec leak Gives = codes " at work until turn " ++ (decimal turn ++ (codes ": ec " ++ (decimal ec ++ (codes " gives" ++ line_feed))))
+lapse_text turn ec leak Revokes = codes " at work until turn " ++ (decimal turn ++ (codes ": ec " ++ (decimal ec ++ (codes " revokes" ++ leak_text leak))))
 
-abbrev pub verdict_text : (ℕ → Bool) → ℕ → Option Lapse → Verdict → List ℕ
-verdict_text C cpus lapse Own = codes " own" ++ (homes_text C cpus ++ work_text lapse)
-verdict_text C cpus lapse (Waits ec) = codes " waits ec " ++ (decimal ec ++ line_feed)
-verdict_text C cpus lapse (Fails premise leak) = codes " " ++ (field_word leak.field ++ place_text leak.place)
+abbrev pub work_text : Option Leak → Option Lapse → List ℕ
+work_text leak None = codes " at work to the end" ++ line_feed
+work_text leak (Some l) = lapse_text l.turn l.ec leak l.kind
+
+abbrev pub verdict_text : (ℕ → Bool) → ℕ → Work → Verdict → List ℕ
+verdict_text C cpus work Own = codes " own" ++ (homes_text C cpus ++ work_text work.leak work.lapse)
+verdict_text C cpus work (Waits ec) = codes " waits ec " ++ (decimal ec ++ line_feed)
+verdict_text C cpus work (Fails premise leak) = codes " " ++ (field_word leak.field ++ place_text leak.place)
 
 -- each side in a line, by the least number of its domains
 abbrev pub begins_side : List ℕ → ℕ → ℕ → Bool
@@ -85,7 +93,7 @@ verdict_at k labels label = verdict_by k (own_by labels label) (others_by labels
 
 abbrev pub flow_text : List Stated → KernelState → List Lapse → List ℕ → ℕ → List ℕ
 flow_text policy k lapses labels label =
-    codes "flow " ++ (side_text policy label ++ verdict_text (home_by k labels label) k.cpus (first_lapse (own_by labels label) lapses) (verdict_at k labels label))
+    codes "flow " ++ (side_text policy label ++ verdict_text (home_by k labels label) k.cpus (work_by k.delegations.list (own_by labels label) lapses) (verdict_at k labels label))
 
 abbrev pub flow_line : List Stated → KernelState → List Lapse → List ℕ → ℕ × ℕ → List ℕ
 flow_line policy k lapses labels (n, label) = if begins_side labels n label then flow_text policy k lapses labels label else []

@@ -1,22 +1,28 @@
--- Until which turn of a run a side is at work, and neither gives nor revokes.
-use Rattle.std.specs.Prelude.{◌≡◌, ℕ, ◌+◌, Bool, List, [], ◌∷◌, ◌++◌, find, length, Option, Some, None, Result, Ok}
+-- Until which turn of a run a side is at work, by the law: it creates nothing, gives nothing while one of it is amid a revoke, and revokes only where it may.
+use Rattle.std.specs.Prelude.{◌≡◌, ℕ, ◌+◌, ◌&&◌, Bool, true, false, not, List, ◌∷◌, ◌++◌, find, length, Option, Some, None, Result, Ok}
 use Rattle.std.specs.Option.{option_or}
 use Rattle.nova_calls.specs.Hypercalls.{call_of}
 use Rattle.nova_calls.specs.declared.call.Call.{Call}
 use Rattle.nova_calls.specs.declared.call.Call.TheVariants.{CreatePd, CreateEc, CreateSc, CreatePt, CreateSm, Revoke}
 use Rattle.nova_range.specs.declared.status.Status.{Status}
-use Rattle.nova_model.specs.Runs.{after, run}
+use Rattle.nova_model.specs.Runs.{run}
 use Rattle.nova_model.specs.State.{KernelState, context}
 use Rattle.nova_model.specs.declared.context.State.{State}
 use Rattle.nova_model.specs.declared.context.State.TheVariants.{Granting, Replying, Revoking}
-use Rattle.law_flow.specs.Flow.{IsAtWork, own_turn}
+use Rattle.nova_model.specs.declared.delegation.Derivation.{Derivation}
+use Rattle.law_integrity.specs.Confined.{Of}
+use Rattle.law_flow.specs.Flow.{AreAtWork, IsAtWork, RevokesNothing, own_turn}
+use Rattle.nova_flowing.specs.Deriving.{IsDerivingTold, first_made}
 use Rattle.nova_flowing.specs.declared.lapse.Lapse.{Lapse}
 use Rattle.nova_flowing.specs.declared.lapse.LapseKind.{LapseKind}
 use Rattle.nova_flowing.specs.declared.lapse.LapseKind.TheVariants.{Creates, Gives, Revokes}
+use Rattle.nova_flowing.specs.declared.lapse.Work.{Work}
+use Rattle.nova_flowing.specs.declared.leak.Leak.{Leak}
 
 -- what a context does in this state, and asks for by this call: it creates, gives or revokes
 abbrev pub kind_in : State → Option LapseKind
-kind_in (Granting new) = Some Gives
+kind_in (Granting (Some new)) = Some Creates
+kind_in (Granting None) = Some Gives
 kind_in Replying = Some Gives
 kind_in (Revoking range own) = Some Revokes
 kind_in other = None
@@ -33,35 +39,48 @@ kind_of other = None
 abbrev pub kind_at : KernelState → ℕ → Option LapseKind
 kind_at k ec = option_or (kind_in (context k ec).state) (kind_of (call_of (context k ec).regs))
 
--- A turn of its own is at work by the law, and neither gives nor revokes. What the law asks of a side that does is of all its contexts, and of all that others hold.
-abbrev pub IsWorking : KernelState → ℕ → Type 0
-IsWorking k ec = IsAtWork (Unit {0}) ⊥ ⊥ k ec
+-- what `AreAtWork` asks of one turn of the side
+abbrev pub IsWorking : Bool → (ℕ → Bool) → KernelState → ℕ → Type 0
+IsWorking revokes S k ec = IsAtWork (Unit {0}) (RevokesNothing k (Of S)) (revokes ≡ true) k ec
 
-abbrev pub AreWorking : (ℕ → Bool) → KernelState → List ℕ → Type 0
-AreWorking S k [] = Unit {0}
-AreWorking S k (cpu ∷ turns) = ((ec sc : ℕ) → own_turn S k cpu ≡ Some (ec, sc) → IsWorking k ec) × AreWorking S (after k cpu) turns
-
--- Of a run of which `n` turns were taken before: the first of these turns that is the side's and in which it creates, gives or revokes.
-pub record HasLapsed (S : ℕ → Bool) (k : KernelState) (n : ℕ) (turns : List ℕ) (l : Lapse) : Type 0 where
+-- Of a run of which `n` turns were taken before: the first of these turns that is the side's and in which it isn't at work. Whether it may revoke is said first.
+pub record HasLapsed (revokes : Bool) (S : ℕ → Bool) (k : KernelState) (n : ℕ) (turns : List ℕ) (l : Lapse) : Type 0 where
   pub taken : List ℕ
   pub cpu : ℕ
   pub left : List ℕ
   pub whole : taken ++ cpu ∷ left ≡ turns
-  pub works : AreWorking S k taken
+  pub works : AreAtWork revokes S k taken
   pub sc : ℕ
   pub acts : own_turn S (run k taken) cpu ≡ Some (l.ec, sc)
-  pub lapses : IsWorking (run k taken) l.ec → ⊥
+  pub lapses : IsWorking revokes S (run k taken) l.ec → ⊥
   pub kind : kind_at (run k taken) l.ec ≡ Some l.kind
   pub turn : l.turn ≡ (n + length taken) + 1
 
--- it works so in all of them, or until this one
-abbrev pub IsWorkTold : (ℕ → Bool) → KernelState → ℕ → List ℕ → Option Lapse → Type 0
-IsWorkTold S k n turns None = AreWorking S k turns
-IsWorkTold S k n turns (Some l) = HasLapsed S k n turns l
+-- it is at work in all of them, or until this one
+abbrev pub IsWorkTold : Bool → (ℕ → Bool) → KernelState → ℕ → List ℕ → Option Lapse → Type 0
+IsWorkTold revokes S k n turns None = AreAtWork revokes S k turns
+IsWorkTold revokes S k n turns (Some l) = HasLapsed revokes S k n turns l
 
--- the first of some lapses that is of a side
-abbrev pub is_of_side : (ℕ → Bool) → Lapse → Bool
-is_of_side S l = S l.pd
+-- The first of some lapses that is of a side: one that gives does so while one of the side is amid a revoke, and one that revokes counts where it may not.
+abbrev pub is_revoke : LapseKind → Bool
+is_revoke Revokes = true
+is_revoke other = false
 
-abbrev pub first_lapse : (ℕ → Bool) → List Lapse → Option Lapse
-first_lapse S lapses = find (is_of_side S) lapses
+abbrev pub is_of_side : Bool → (ℕ → Bool) → Lapse → Bool
+is_of_side revokes S l = (S l.pd && S l.amid) && not (revokes && is_revoke l.kind)
+
+abbrev pub first_lapse : Bool → (ℕ → Bool) → List Lapse → Option Lapse
+first_lapse revokes S lapses = find (is_of_side revokes S) lapses
+
+-- it may revoke where others hold nothing that was made of what it holds
+abbrev pub may_revoke : Option Leak → Bool
+may_revoke None = true
+may_revoke (Some leak) = false
+
+abbrev pub work_by : List Derivation → (ℕ → Bool) → List Lapse → Work
+work_by list S lapses = record { lapse = first_lapse (may_revoke (first_made list S)) S lapses; leak = first_made list S }
+
+-- until when it is at work: where it may revoke if the law's condition on what others hold is met at the beginning, and else without revokes
+pub record IsWorkEnd (S : ℕ → Bool) (k : KernelState) (n : ℕ) (turns : List ℕ) (w : Work) : Type 0 where
+  pub derives : IsDerivingTold k S w.leak
+  pub works : IsWorkTold (may_revoke w.leak) S k n turns w.lapse

@@ -82,7 +82,7 @@ fn parent_of(list: &[Derivation], d: Derivation) -> Option<Derivation>
 }
 
 /// Whether a derivation, or one that it comes of, is held by a domain of a set.
-fn comes_of(list: &[Derivation], set: &[bool], d: Derivation) -> bool
+pub(crate) fn comes_of(list: &[Derivation], set: &[bool], d: Derivation) -> bool
     ensures { result ≡ list_any (λ a. is_in set.now a.pd) (line list.now d) }
 {
     let mut next = Some(d);

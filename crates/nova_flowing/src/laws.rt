@@ -1,26 +1,39 @@
 //! What the premises are for. The functions do nothing: their contracts are the laws.
-ghost use Rattle.std.specs.Prelude.{◌≡◌, ℕ, Bool, false, List, filter};
+ghost use Rattle.std.specs.Prelude.{◌≡◌, ℕ, Bool, true, List, filter};
 ghost use Rattle.nova_model.specs.Boot.{Scenario, boot};
 ghost use Rattle.nova_model.specs.Runs.{run};
 ghost use Rattle.nova_model.specs.State.{KernelState};
 ghost use Rattle.law_integrity.specs.Confined.{Of};
-ghost use Rattle.law_flow.specs.Flow.{AreAtWork, IsPartitioned};
+ghost use Rattle.law_flow.specs.Flow.{AreAtWork, DerivesWithin, IsPartitioned};
 ghost use Rattle.law_flow.specs.Processors.{AreAlikeAtHome, IsDivided};
-ghost use Rattle.nova_flowing.specs.Working.{AreWorking};
+ghost use Rattle.nova_flowing.specs.Deriving.{IsDerivingTold, first_made};
+ghost use Rattle.nova_flowing.specs.Working.{IsWorkEnd, IsWorkTold, first_lapse, work_by};
+ghost use Rattle.nova_flowing.specs.declared.lapse.Lapse.{Lapse};
 
-/// A side of which the premises hold at a place of a run, at work without revokes in some turns from there on, comes to the same by all turns from there with the
-/// same turns of its processors in the same order. So do all its deeds and events. `decide` answers `Own` of such a place.
+/// A side of which the premises hold at a place of a run, at work in some turns from there on, comes to the same by all turns from there with the
+/// same turns of its processors in the same order. So do all its deeds and events. If it revokes, nothing that others hold at the place was made of what it holds. `decide` answers `Own` of such a place, and
+/// `first_made` whether it may revoke.
 pub fn what_is_own_depends_on_its_own_processors_alone()
-    ensures { (scenario : Scenario) (before turns others : List ℕ) (S T P C : ℕ → Bool)
+    ensures { (revokes : Bool) (scenario : Scenario) (before turns others : List ℕ) (S T P C : ℕ → Bool)
         → IsPartitioned (run (boot scenario) before) (Of S) (Of T) (Of P) → IsDivided (run (boot scenario) before) (Of S) (Of T) (Of P) (Of C)
-        → AreAtWork false S (run (boot scenario) before) turns
+        → (revokes ≡ true → DerivesWithin (run (boot scenario) before) (Of S))
+        → AreAtWork revokes S (run (boot scenario) before) turns
         → filter C turns ≡ filter C others
         → AreAlikeAtHome (run (boot scenario) before) (run (boot scenario) before) turns others S P C }
 {
     law_flow::noninterference_on_divided_processors();
 }
 
-/// A side that is at work by a run, and neither gives nor revokes, is at work as noninterference asks for it.
-pub fn sides_that_give_nothing_are_at_work()
-    ensures { (S : ℕ → Bool) (k : KernelState) (turns : List ℕ) → AreWorking S k turns → AreAtWork false S k turns }
+/// Nothing that others hold was made of what a side holds exactly where `first_made` names none; and what it names is of another domain, and comes of
+/// the side's.
+pub fn what_others_hold_of_a_side_is_told()
+    ensures { (k : KernelState) (S : ℕ → Bool) → IsDerivingTold k S (first_made k.delegations.list S) }
+{}
+
+/// Of some lapses, of which the first of each side is its own, where it may revoke and where it may not, that is told by which a side is no longer at
+/// work: where nothing that others hold was made of what it holds it may revoke.
+pub fn sides_may_revoke_what_they_keep()
+    ensures { (S : ℕ → Bool) (k : KernelState) (n : ℕ) (turns : List ℕ) (lapses : List Lapse)
+        → ((revokes : Bool) → IsWorkTold revokes S k n turns (first_lapse revokes S lapses))
+        → IsWorkEnd S k n turns (work_by k.delegations.list S lapses) }
 {}

@@ -11,7 +11,7 @@ pub enum Premise {
     Divided,
 }
 
-/// A field of the conditions of which a premise is made.
+/// A field of the conditions of which a premise is made, or what is asked of a side that revokes.
 #[derive(Clone, Copy)]
 pub enum Field {
     /// `IsClosed.there`: what is named as a domain is none.
@@ -64,6 +64,8 @@ pub enum Field {
     Others,
     /// `IsDivided.creates`: the others hold a right to create.
     Creates,
+    /// `DerivesWithin`: a capability that no domain of the side holds was made of one that one of them holds.
+    Derives,
 }
 
 /// What a premise fails of.

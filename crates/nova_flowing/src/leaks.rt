@@ -20,7 +20,7 @@ use crate::leak::{Field, Leak, Place, Premise};
 use crate::tables::{is_in, is_member, is_of, is_own};
 use nova_kernel::{Alarm, Derivation, EcState, Kernel, Object, State};
 
-fn when(fails: bool, field: Field, place: Place) -> Option<Leak>
+pub(crate) fn when(fails: bool, field: Field, place: Place) -> Option<Leak>
     ensures { result ≡ when fails field place }
 {
     if fails {
@@ -30,7 +30,7 @@ fn when(fails: bool, field: Field, place: Place) -> Option<Leak>
     }
 }
 
-fn at_cap(d: Derivation) -> Place
+pub(crate) fn at_cap(d: Derivation) -> Place
     ensures { result ≡ at_cap d }
 {
     Place::Capability {

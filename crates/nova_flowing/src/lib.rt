@@ -11,12 +11,14 @@ pub mod laws;
 mod leak;
 mod leaks;
 mod lines;
+mod made;
 mod sides;
 mod tables;
 
 pub use deciding::{Verdict, decide};
 pub use division::Division;
-pub use lapse::{Lapse, LapseKind};
+pub use lapse::{Lapse, LapseKind, Work};
 pub use leak::{Field, Leak, Place, Premise};
 pub use lines::write_flows;
+pub use made::first_made;
 pub use sides::division_of;

@@ -1,14 +1,15 @@
 // Lines that tell of each side whether the premises hold.
-ghost use Rattle.std.specs.Prelude.{◌≡◌, ◌++◌, ◌≤◌, ◌^◌, ◌<◌, OnOk, codes, flat_map, length, option_map, string_bytes};
+ghost use Rattle.std.specs.Prelude.{◌≡◌, ◌++◌, ◌&&◌, ◌≤◌, ◌^◌, ◌<◌, OnOk, not, codes, flat_map, length, option_map, string_bytes};
 ghost use Rattle.std.specs.List.{enumerate_from, position, range_with_len};
 ghost use Rattle.nova_ties.specs.Ties.{has_label, is_place};
-ghost use Rattle.nova_flowing.specs.Lines.{begins_side, flow_line, flow_lines, flow_text, home_text, homes_text, field_word, lapse_text, place_text, verdict_text, work_text};
+ghost use Rattle.nova_flowing.specs.Lines.{begins_side, flow_line, flow_lines, flow_text, home_text, homes_text, field_word, lapse_text, leak_text, place_text, verdict_text, work_text};
 ghost use Rattle.nova_flowing.specs.Tests.{is_in};
-ghost use Rattle.nova_flowing.specs.Working.{first_lapse};
+ghost use Rattle.nova_flowing.specs.Working.{first_lapse, is_of_side, is_revoke, may_revoke, work_by};
 
 use crate::deciding::{Verdict, decide};
-use crate::lapse::{Lapse, LapseKind};
-use crate::leak::{Field, Place};
+use crate::lapse::{Lapse, LapseKind, Work};
+use crate::leak::{Field, Leak, Place};
+use crate::made::first_made;
 use crate::sides::division_of;
 use crate::tables::is_in;
 use nova_kernel::{Derivation, Kernel};
@@ -45,6 +46,7 @@ fn field_word<'a>(field: Field) -> &'a str
         Field::Rings => "HasHome.rings",
         Field::Others => "IsDivided.others",
         Field::Creates => "IsDivided.creates",
+        Field::Derives => "DerivesWithin",
     }
 }
 
@@ -82,40 +84,6 @@ fn write_homes(out: &mut String, home: &[bool], cpus: u32) -> Result<(), AllocEr
     Ok(())
 }
 
-/// Until which turn a side is at work, and neither gives nor revokes, and what is done then.
-fn write_lapse(out: &mut String, turn: u64, ec: u32, kind: LapseKind) -> Result<(), AllocError>
-    ensures { OnOk result (string_bytes out.new ≡ string_bytes out.old ++ lapse_text turn ec kind) }
-{
-    match kind {
-        LapseKind::Creates => writeln!(out, " at work until turn {turn}: ec {ec} creates"),
-        LapseKind::Gives => writeln!(out, " at work until turn {turn}: ec {ec} gives"),
-        LapseKind::Revokes => writeln!(out, " at work until turn {turn}: ec {ec} revokes"),
-    }
-}
-
-/// Until when a side is at work, and neither gives nor revokes.
-fn write_work(out: &mut String, lapse: Option<Lapse>) -> Result<(), AllocError>
-    ensures { OnOk result (string_bytes out.new ≡ string_bytes out.old ++ work_text lapse) }
-{
-    match lapse {
-        Some(lapse) => write_lapse(out, lapse.turn, lapse.ec, lapse.kind),
-        None => out.push_str(" at work to the end\n"),
-    }
-}
-
-fn write_own(
-    out: &mut String,
-    home: &[bool],
-    cpus: u32,
-    lapse: Option<Lapse>,
-) -> Result<(), AllocError>
-    ensures { OnOk result (string_bytes out.new ≡ string_bytes out.old ++ verdict_text (is_in home.now) cpus lapse Verdict.Own) }
-{
-    out.push_str(" own")?;
-    write_homes(out, home, cpus)?;
-    write_work(out, lapse)
-}
-
 fn write_failing(out: &mut String, field: Field, place: Place) -> Result<(), AllocError>
     ensures { OnOk result (string_bytes out.new ≡ string_bytes out.old ++ (codes " " ++ (field_word field ++ place_text place))) }
 {
@@ -124,34 +92,117 @@ fn write_failing(out: &mut String, field: Field, place: Place) -> Result<(), All
     write_place(out, place)
 }
 
+/// Why a side may not revoke.
+fn write_leak(out: &mut String, leak: Option<Leak>) -> Result<(), AllocError>
+    ensures { OnOk result (string_bytes out.new ≡ string_bytes out.old ++ leak_text leak) }
+{
+    match leak {
+        Some(leak) => write_failing(out, leak.field, leak.place),
+        None => out.push_str("\n"),
+    }
+}
+
+fn write_revoke(out: &mut String, turn: u64, ec: u32, leak: Option<Leak>) -> Result<(), AllocError>
+    ensures { OnOk result (string_bytes out.new ≡ string_bytes out.old ++ lapse_text turn ec leak LapseKind.Revokes) }
+{
+    write!(out, " at work until turn {turn}: ec {ec} revokes")?;
+    write_leak(out, leak)
+}
+
+/// Until which turn a side is at work, and what is done then.
+fn write_lapse(
+    out: &mut String,
+    turn: u64,
+    ec: u32,
+    leak: Option<Leak>,
+    kind: LapseKind,
+) -> Result<(), AllocError>
+    ensures { OnOk result (string_bytes out.new ≡ string_bytes out.old ++ lapse_text turn ec leak kind) }
+{
+    match kind {
+        LapseKind::Creates => writeln!(out, " at work until turn {turn}: ec {ec} creates"),
+        LapseKind::Gives => writeln!(out, " at work until turn {turn}: ec {ec} gives"),
+        LapseKind::Revokes => write_revoke(out, turn, ec, leak),
+    }
+}
+
+/// Until when a side is at work.
+fn write_work(out: &mut String, work: Work) -> Result<(), AllocError>
+    ensures { OnOk result (string_bytes out.new ≡ string_bytes out.old ++ work_text work.leak work.lapse) }
+{
+    match work.lapse {
+        Some(lapse) => write_lapse(out, lapse.turn, lapse.ec, work.leak, lapse.kind),
+        None => out.push_str(" at work to the end\n"),
+    }
+}
+
+fn write_own(out: &mut String, home: &[bool], cpus: u32, work: Work) -> Result<(), AllocError>
+    ensures { OnOk result (string_bytes out.new ≡ string_bytes out.old ++ verdict_text (is_in home.now) cpus work Verdict.Own) }
+{
+    out.push_str(" own")?;
+    write_homes(out, home, cpus)?;
+    write_work(out, work)
+}
+
 /// Whether the premises hold, in words.
 fn write_verdict(
     out: &mut String,
     home: &[bool],
     cpus: u32,
-    lapse: Option<Lapse>,
+    work: Work,
     verdict: Verdict,
 ) -> Result<(), AllocError>
-    ensures { OnOk result (string_bytes out.new ≡ string_bytes out.old ++ verdict_text (is_in home.now) cpus lapse verdict) }
+    ensures { OnOk result (string_bytes out.new ≡ string_bytes out.old ++ verdict_text (is_in home.now) cpus work verdict) }
 {
     match verdict {
-        Verdict::Own => write_own(out, home, cpus, lapse),
+        Verdict::Own => write_own(out, home, cpus, work),
         Verdict::Waits { ec } => writeln!(out, " waits ec {ec}"),
         Verdict::Fails { leak, .. } => write_failing(out, leak.field, leak.place),
     }
 }
 
-fn lapse_in<'a>(own: &[bool], lapses: &'a [Lapse]) -> Option<&'a Lapse>
-    ensures { option_map (λ l. l.now) result ≡ first_lapse (is_in own.now) lapses.now }
+fn is_revoke(kind: LapseKind) -> bool
+    ensures { result ≡ is_revoke kind }
 {
-    lapses.iter().find(|l| is_in(own, l.pd))
+    matches!(kind, LapseKind::Revokes)
+}
+
+/// Whether a lapse is one of a side's domains, where these may revoke or not.
+fn is_of_side(revokes: bool, own: &[bool], l: Lapse) -> bool
+    ensures { result ≡ is_of_side revokes (is_in own.now) l }
+{
+    is_in(own, l.pd) && is_in(own, l.amid) && !(revokes && is_revoke(l.kind))
+}
+
+fn lapse_in<'a>(revokes: bool, own: &[bool], lapses: &'a [Lapse]) -> Option<&'a Lapse>
+    ensures { option_map (λ l. l.now) result ≡ first_lapse revokes (is_in own.now) lapses.now }
+{
+    lapses.iter().find(|&&l| is_of_side(revokes, own, l))
 }
 
 /// The first of some lapses that is of a side's domains.
-fn first_lapse(own: &[bool], lapses: &[Lapse]) -> Option<Lapse>
-    ensures { result ≡ first_lapse (is_in own.now) lapses.now }
+fn first_lapse(revokes: bool, own: &[bool], lapses: &[Lapse]) -> Option<Lapse>
+    ensures { result ≡ first_lapse revokes (is_in own.now) lapses.now }
 {
-    Some(*lapse_in(own, lapses)?)
+    Some(*lapse_in(revokes, own, lapses)?)
+}
+
+/// Whether a side may revoke, by what others hold that was made of what it holds.
+fn may_revoke(leak: Option<Leak>) -> bool
+    ensures { result ≡ may_revoke leak }
+{
+    leak.is_none()
+}
+
+/// Until when a side is at work, by the lapses of a run. It may revoke where others hold nothing that was made of what it holds.
+fn work_of(list: &[Derivation], own: &[bool], lapses: &[Lapse]) -> Work
+    ensures { result ≡ work_by list.now (is_in own.now) lapses.now }
+{
+    let leak = first_made(list, own);
+    Work {
+        lapse: first_lapse(may_revoke(leak), own, lapses),
+        leak,
+    }
 }
 
 /// A side in a line.
@@ -171,11 +222,11 @@ fn write_flow(
 {
     let v = division_of(alloc, kernel, list, labels, label)?;
     let verdict = decide(kernel, list, &v);
-    let lapse = first_lapse(&v.own, lapses);
+    let work = work_of(list, &v.own, lapses);
     let cpus = kernel.cpus();
     out.push_str("flow ")?;
     policy.write_side(out, label)?;
-    write_verdict(out, &v.home, cpus, lapse, verdict)
+    write_verdict(out, &v.home, cpus, work, verdict)
 }
 
 /// The first number with a label.
@@ -224,8 +275,8 @@ fn write_flow_at(
 }
 
 /// Writes of each side of `labels`, the labels of the domains of `kernel` by number, whether the premises of noninterference on divided processors hold
-/// in its present state, of which `list` has all derivations: `own` with the side's processors, and the first of `lapses` that is its own; or the first that fails, by the field of the law's
-/// conditions, with the capability, object, execution context or source of which it does; or `waits` with an execution context of no side that is blocked, where only a deadline
+/// in its present state, of which `list` has all derivations: `own` with the side's processors, and the first of `lapses` by which it is no longer at work, where a revoke is one only if others hold what was made of what
+/// the side holds, of which the first is named; or the first that fails, by the field of the law's conditions, with the capability, object, execution context or source of which it does; or `waits` with an execution context of no side that is blocked, where only a deadline
 /// of such may be against it. The only refusal is of memory.
 pub fn write_flows(
     alloc: Global,

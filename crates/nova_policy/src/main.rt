@@ -1,8 +1,19 @@
 //! `nova_policy`: which protection domains of a scenario are isolated from which, after a turn of its run.
 #![tactic(auto)]
 
+mod decided;
+mod exit;
+mod fetched;
+mod flows;
+mod form;
+mod main_call;
+mod request;
+mod running;
+
+use exit::Exit;
+use main_call::policy_main;
+use nova_command::CommandFault;
 use nova_io::{FileDepot, StdSink};
-use nova_policy_top::{CommandFault, Exit, policy_main};
 use std::env;
 use std::process::ExitCode;
 

@@ -1,48 +1,66 @@
 -- Lapses that are noted turn by turn.
 use Rattle.std.proofs.Common.{◌≡◌, ℕ, ◌+◌, ◌<◌, ◌≤◌, List, [], ◌∷◌, ◌++◌, Option, Some, None, length, replicate, take, refl, sym, ap, subst, ◌∙◌, inl, inr, arith, append_assoc, slice_index_or}
-use Rattle.std.specs.Prelude.{◌==◌, Bool, true, false, is_some, if◌then◌else◌, option_and_then}
+use Rattle.std.specs.Prelude.{◌==◌, ◌&&◌, ◌||◌, Bool, true, false, not, is_some, if◌then◌else◌}
 use Rattle.std.specs.List.{list_any}
 use Rattle.std.specs.Option.{option_or}
-use Rattle.std.proofs.lemmas.Bool.{eqb-true, or_cases}
+use Rattle.std.proofs.lemmas.Bool.{and_from, and_parts, eqb-true, or_cases}
 use Rattle.std.proofs.lemmas.List.{append-nil, length-append, length-replicate, replicate_more}
-use Rattle.std.proofs.lemmas.Option.{same_Some}
 use Rattle.law_turns.proofs.Passes.{run_append}
-use Rattle.nova_model.specs.Choice.{Candidate, next_to_act}
 use Rattle.nova_model.specs.Runs.{after, run}
-use Rattle.nova_model.specs.State.{KernelState, pd_of}
+use Rattle.nova_model.specs.State.{KernelState}
 use Rattle.nova_order.specs.Blocks.{total, turns}
 use Rattle.nova_order.specs.declared.block.Block.{Block}
 use Rattle.nova_order.proofs.BlockLemmas.{length_turns, total_push, turns_push}
 use Rattle.nova_order.proofs.PlaceLemmas.{more_at}
-use Rattle.law_flow.specs.Flow.{if_own, own_turn}
-use Rattle.nova_flowing.specs.Working.{AreWorking, HasLapsed, IsWorkTold, IsWorking, first_lapse, kind_at}
+use Rattle.law_turns.specs.Tables.{HasTables}
+use Rattle.law_flow.specs.Flow.{AreAtWork, own_turn}
+use Rattle.nova_flowing.specs.Working.{HasLapsed, IsWorkTold, IsWorking, first_lapse, is_of_side, is_revoke}
 use Rattle.nova_flowing.specs.declared.lapse.Lapse.{Lapse}
-use Rattle.nova_watching.specs.Worked.{AreLapses, Continues, IsTurnTold, of_side}
+use Rattle.nova_watching.specs.Worked.{Adds, AreLapses, Continues, IsTurnTold, is_like, of_side, turn_lapse}
+use Rattle.nova_watching.proofs.Working.{turn_told}
 
 -- THE FIRST OF A SIDE
 
-module _ (S : ℕ → Bool) where
-  pub found_more : (xs : List Lapse) (l : Lapse) → first_lapse S (xs ++ l ∷ []) ≡ option_or (first_lapse S xs) (of_side S (Some l))
+-- what counts for a side counts by an earlier one that is like it
+revokes_less : (revokes earlier later : Bool) → (not earlier || later) ≡ true → not (revokes && later) ≡ true → not (revokes && earlier) ≡ true
+revokes_less false earlier later like counts = refl
+revokes_less true false later like counts = refl
+revokes_less true true true like counts = absurd (cc)
+revokes_less true true false like counts = absurd (cc)
+
+module _ (revokes : Bool) (S : ℕ → Bool) where
+  pub found_more : (xs : List Lapse) (l : Lapse) → first_lapse revokes S (xs ++ l ∷ []) ≡ option_or (first_lapse revokes S xs) (of_side revokes S (Some l))
   found_more [] l = refl
-  found_more (x ∷ xs) l = by_test (found_more xs l) (S x.pd)
+  found_more (x ∷ xs) l = by_test (found_more xs l) (is_of_side revokes S x)
     where
-      by_test : first_lapse S (xs ++ l ∷ []) ≡ option_or (first_lapse S xs) (of_side S (Some l)) → (b : Bool) → (if b then Some x else first_lapse S (xs ++ l ∷ [])) ≡ option_or (if b then Some x else first_lapse S xs) (of_side S (Some l))
+      by_test : first_lapse revokes S (xs ++ l ∷ []) ≡ option_or (first_lapse revokes S xs) (of_side revokes S (Some l)) → (b : Bool) →
+          (if b then Some x else first_lapse revokes S (xs ++ l ∷ [])) ≡ option_or (if b then Some x else first_lapse revokes S xs) (of_side revokes S (Some l))
       by_test rest true = refl
       by_test rest false = rest
 
-  finds : (xs : List Lapse) (pd : ℕ) → list_any (λ (l : Lapse). l.pd == pd) xs ≡ true → S pd ≡ true → is_some (first_lapse S xs) ≡ true
-  finds [] pd any its = absurd (cc)
-  finds (x ∷ xs) pd any its = by_test (λ later. finds xs pd later its) (S x.pd) refl
+  like_counts : (l x : Lapse) → is_like l x ≡ true → is_of_side revokes S l ≡ true → is_of_side revokes S x ≡ true
+  like_counts l x like its =
+      let parts = and_parts ((x.pd == l.pd) && (x.amid == l.amid)) (not (is_revoke x.kind) || is_revoke l.kind) like in
+      let same = and_parts (x.pd == l.pd) (x.amid == l.amid) parts.0 in
+      let mine = and_parts (S l.pd && S l.amid) (not (revokes && is_revoke l.kind)) its in
+      let both = and_parts (S l.pd) (S l.amid) mine.0 in
+      and_from (S x.pd && S x.amid) (not (revokes && is_revoke x.kind))
+      (and_from (S x.pd) (S x.amid) (ap S (eqb-true x.pd l.pd same.0) ∙ both.0) (ap S (eqb-true x.amid l.amid same.1) ∙ both.1))
+      (revokes_less revokes (is_revoke x.kind) (is_revoke l.kind) parts.1 mine.1)
+
+  finds : (xs : List Lapse) (l : Lapse) → list_any (is_like l) xs ≡ true → is_of_side revokes S l ≡ true → is_some (first_lapse revokes S xs) ≡ true
+  finds [] l any its = absurd (cc)
+  finds (x ∷ xs) l any its = by_test (λ later. finds xs l later its) (is_of_side revokes S x) refl
     where
-      by_test : (list_any (λ (l : Lapse). l.pd == pd) xs ≡ true → is_some (first_lapse S xs) ≡ true) → (b : Bool) → S x.pd ≡ b → is_some (if b then Some x else first_lapse S xs) ≡ true
+      by_test : (list_any (is_like l) xs ≡ true → is_some (first_lapse revokes S xs) ≡ true) → (b : Bool) → is_of_side revokes S x ≡ b → is_some (if b then Some x else first_lapse revokes S xs) ≡ true
       by_test rest true is = refl
-      by_test rest false is = elim (or_cases (x.pd == pd) (list_any (λ (l : Lapse). l.pd == pd) xs) any) [
-        | inl same ↦ absurd (let both : true ≡ false = sym its ∙ ap S (sym (eqb-true x.pd pd same)) ∙ is in cc)
+      by_test rest false is = elim (or_cases (is_like l x) (list_any (is_like l) xs) any) [
+        | inl like ↦ absurd (let both : true ≡ false = sym (like_counts l x like its) ∙ is in cc)
         | inr later ↦ rest later
       ]
 
-  pub found_same : (xs : List Lapse) (l : Lapse) → list_any (λ (m : Lapse). m.pd == l.pd) xs ≡ true → first_lapse S xs ≡ option_or (first_lapse S xs) (of_side S (Some l))
-  found_same xs l any = by_test (S l.pd) refl
+  pub found_same : (xs : List Lapse) (l : Lapse) → list_any (is_like l) xs ≡ true → first_lapse revokes S xs ≡ option_or (first_lapse revokes S xs) (of_side revokes S (Some l))
+  found_same xs l any = by_test (is_of_side revokes S l) refl
     where
       none_more : (o : Option Lapse) → o ≡ option_or o None
       none_more None = refl
@@ -52,12 +70,12 @@ module _ (S : ℕ → Bool) where
       some_more None p is = absurd (cc)
       some_more (Some m) p is = refl
 
-      by_test : (b : Bool) → S l.pd ≡ b → first_lapse S xs ≡ option_or (first_lapse S xs) (if b then Some l else None)
-      by_test true is = some_more (first_lapse S xs) (Some l) (finds xs l.pd any is)
-      by_test false is = none_more (first_lapse S xs)
+      by_test : (b : Bool) → is_of_side revokes S l ≡ b → first_lapse revokes S xs ≡ option_or (first_lapse revokes S xs) (if b then Some l else None)
+      by_test true is = some_more (first_lapse revokes S xs) (Some l) (finds xs l any is)
+      by_test false is = none_more (first_lapse revokes S xs)
 
-  pub found_none : (xs : List Lapse) → first_lapse S xs ≡ option_or (first_lapse S xs) None
-  found_none xs = by_first (first_lapse S xs)
+  pub found_none : (xs : List Lapse) → first_lapse revokes S xs ≡ option_or (first_lapse revokes S xs) None
+  found_none xs = by_first (first_lapse revokes S xs)
     where
       by_first : (o : Option Lapse) → o ≡ option_or o None
       by_first None = refl
@@ -65,26 +83,11 @@ module _ (S : ℕ → Bool) where
 
   -- ALONG TURNS
 
-  work_more : (k : KernelState) (xs : List ℕ) (cpu : ℕ) → AreWorking S k xs → ((ec sc : ℕ) → own_turn S (run k xs) cpu ≡ Some (ec, sc) → IsWorking (run k xs) ec) → AreWorking S k (xs ++ cpu ∷ [])
+  work_more : (k : KernelState) (xs : List ℕ) (cpu : ℕ) → AreAtWork revokes S k xs → ((ec sc : ℕ) → own_turn S (run k xs) cpu ≡ Some (ec, sc) → IsWorking revokes S (run k xs) ec) → AreAtWork revokes S k (xs ++ cpu ∷ [])
   work_more k [] cpu works last = (last, tt)
   work_more k (x ∷ xs) cpu works last = (works.0, work_more (after k x) xs cpu works.1 last)
 
-  -- who acts, where it is the side's
-  own_at : (k : KernelState) (cpu : ℕ) (c : Candidate) (b : Bool) → next_to_act k cpu ≡ Some c → S (pd_of k c.actor) ≡ b → own_turn S k cpu ≡ if_own b c
-  own_at k cpu c b is mine = ap (option_and_then (λ (d : Candidate). if_own (S (pd_of k d.actor)) d)) is ∙ ap (λ (t : Bool). if_own t c) mine
-
-  own_works : (k : KernelState) (cpu ec sc : ℕ) → ((c : Candidate) → next_to_act k cpu ≡ Some c → IsWorking k c.actor) → own_turn S k cpu ≡ Some (ec, sc) → IsWorking k ec
-  own_works k cpu ec sc all own = by_next (next_to_act k cpu) refl own
-    where
-      by_own : (c : Candidate) → next_to_act k cpu ≡ Some c → (b : Bool) → if_own b c ≡ Some (ec, sc) → IsWorking k ec
-      by_own c is true h = let same : c.actor ≡ ec = ap (λ (p : ℕ × ℕ). p.0) (same_Some (c.actor, c.sc) (ec, sc) h) in subst (IsWorking k) same (all c is)
-      by_own c is false h = absurd (cc)
-
-      by_next : (o : Option Candidate) → next_to_act k cpu ≡ o → option_and_then (λ (c : Candidate). if_own (S (pd_of k c.actor)) c) o ≡ Some (ec, sc) → IsWorking k ec
-      by_next None is h = absurd (cc)
-      by_next (Some c) is h = by_own c is (S (pd_of k c.actor)) h
-
-  lapse_kept : (k : KernelState) (n : ℕ) (xs : List ℕ) (cpu : ℕ) (l : Lapse) → HasLapsed S k n xs l → HasLapsed S k n (xs ++ cpu ∷ []) l
+  lapse_kept : (k : KernelState) (n : ℕ) (xs : List ℕ) (cpu : ℕ) (l : Lapse) → HasLapsed revokes S k n xs l → HasLapsed revokes S k n (xs ++ cpu ∷ []) l
   lapse_kept k n xs cpu l h = record {
     taken = h.taken;
     cpu = h.cpu;
@@ -98,33 +101,26 @@ module _ (S : ℕ → Bool) where
     turn = h.turn;
   }
 
-  -- the next turn: it created, gave or revoked before, or does nothing of it now, or comes to this
-  next_told : (k : KernelState) (n : ℕ) (xs : List ℕ) (cpu : ℕ) (o r : Option Lapse) → IsWorkTold S k n xs o → IsTurnTold (run k xs) cpu (n + length xs) r →
-      IsWorkTold S k n (xs ++ cpu ∷ []) (option_or o (of_side S r))
+  -- the next turn: it was no longer at work before, or is in it, or this is its lapse
+  next_told : (k : KernelState) (n : ℕ) (xs : List ℕ) (cpu : ℕ) (o r : Option Lapse) → IsWorkTold revokes S k n xs o → IsTurnTold revokes S (run k xs) cpu (n + length xs) r →
+      IsWorkTold revokes S k n (xs ++ cpu ∷ []) (option_or o r)
   next_told k n xs cpu (Some l) r told turn = lapse_kept k n xs cpu l told
-  next_told k n xs cpu None None told turn = work_more k xs cpu told (λ ec sc own. own_works (run k xs) cpu ec sc turn own)
-  next_told k n xs cpu None (Some l) told turn = by_side (S l.pd) refl
-    where
-      mine : (b : Bool) → S l.pd ≡ b → own_turn S (run k xs) cpu ≡ if_own b turn.chosen
-      mine b is = own_at (run k xs) cpu turn.chosen b turn.next (ap S (sym turn.pd) ∙ is)
-
-      by_side : (b : Bool) → S l.pd ≡ b → IsWorkTold S k n (xs ++ cpu ∷ []) (if b then Some l else None)
-      by_side true is = record {
-        taken = xs;
-        cpu = cpu;
-        left = [];
-        whole = refl;
-        works = told;
-        sc = turn.chosen.sc;
-        acts = mine true is ∙ ap (λ (ec : ℕ). Some (ec, turn.chosen.sc)) (sym turn.ec);
-        lapses = λ works. turn.lapses (subst (IsWorking (run k xs)) turn.ec works);
-        kind = ap (kind_at (run k xs)) turn.ec ∙ turn.kind;
-        turn = turn.turn;
-      }
-      by_side false is = work_more k xs cpu told (λ ec sc own. absurd (let both : if_own false turn.chosen ≡ Some (ec, sc) = sym (mine false is) ∙ own in cc))
+  next_told k n xs cpu None None told turn = work_more k xs cpu told turn
+  next_told k n xs cpu None (Some l) told turn = record {
+    taken = xs;
+    cpu = cpu;
+    left = [];
+    whole = refl;
+    works = told;
+    sc = turn.sc;
+    acts = turn.acts;
+    lapses = turn.lapses;
+    kind = turn.kind;
+    turn = turn.turn;
+  }
 
   -- nothing is told of no turns
-  none_told : (k l : KernelState) (n m : ℕ) (xs : List ℕ) (o : Option Lapse) → xs ≡ [] → IsWorkTold S k n xs o → IsWorkTold S l m [] o
+  none_told : (k l : KernelState) (n m : ℕ) (xs : List ℕ) (o : Option Lapse) → xs ≡ [] → IsWorkTold revokes S k n xs o → IsWorkTold revokes S l m [] o
   none_told k l n m xs None is told = tt
   none_told k l n m xs (Some lapse) is told = absurd (no_turns told.taken told.cpu told.left (told.whole ∙ is))
     where
@@ -132,9 +128,13 @@ module _ (S : ℕ → Bool) where
       no_turns [] cpu zs h = absurd (cc)
       no_turns (y ∷ ys) cpu zs h = absurd (cc)
 
+-- nothing more
+pub adds_none : (old : List Lapse) → Adds old old (λ revokes S. of_side revokes S None)
+adds_none old revokes S = found_none revokes S old
+
 module _ (from : ℕ) where
   pub begun : (k : KernelState) → AreLapses from k [] []
-  begun k = record { before = []; since = []; whole = refl; early = omega arith; later = inl refl; works = λ S. tt }
+  begun k = record { before = []; since = []; whole = refl; early = omega arith; later = inl refl; works = λ revokes S. tt }
 
   -- a turn that isn't looked at
   skipped : (k : KernelState) (xs : List ℕ) (cpu : ℕ) (list : List Lapse) → length xs < from → AreLapses from k xs list → AreLapses from k (xs ++ cpu ∷ []) list
@@ -144,7 +144,7 @@ module _ (from : ℕ) where
     whole = append-nil (xs ++ cpu ∷ []);
     early = let len = length-append xs (cpu ∷ []) in omega (arith, len, less);
     later = inl refl;
-    works = λ S. none_told S (run k a.before) (run k (xs ++ cpu ∷ [])) (length a.before) (length (xs ++ cpu ∷ [])) a.since (first_lapse S list) none (a.works S);
+    works = λ revokes S. none_told revokes S (run k a.before) (run k (xs ++ cpu ∷ [])) (length a.before) (length (xs ++ cpu ∷ [])) a.since (first_lapse revokes S list) none (a.works revokes S);
   }
     where
       none : a.since ≡ []
@@ -154,19 +154,19 @@ module _ (from : ℕ) where
       ]
 
   -- one that is
-  noted : (k : KernelState) (xs : List ℕ) (cpu : ℕ) (old list : List Lapse) (r : Option Lapse) → from ≤ length xs → IsTurnTold (run k xs) cpu (length xs) r →
-      ((S : ℕ → Bool) → first_lapse S list ≡ option_or (first_lapse S old) (of_side S r)) → AreLapses from k xs old → AreLapses from k (xs ++ cpu ∷ []) list
+  noted : (k : KernelState) (xs : List ℕ) (cpu : ℕ) (old list : List Lapse) (r : Bool → (ℕ → Bool) → Option Lapse) → from ≤ length xs →
+      ((revokes : Bool) (S : ℕ → Bool) → IsTurnTold revokes S (run k xs) cpu (length xs) (r revokes S)) → Adds old list r → AreLapses from k xs old → AreLapses from k (xs ++ cpu ∷ []) list
   noted k xs cpu old list r late told first a = record {
     before = a.before;
     since = a.since ++ cpu ∷ [];
     whole = sym (append_assoc a.before a.since (cpu ∷ [])) ∙ ap (λ (l : List ℕ). l ++ cpu ∷ []) a.whole;
     early = a.early;
     later = inr all;
-    works = λ S.
-        subst (IsWorkTold S (run k a.before) (length a.before) (a.since ++ cpu ∷ [])) (sym (first S))
-        (next_told S (run k a.before) (length a.before) a.since cpu (first_lapse S old) r (a.works S)
-        (subst (λ (m : ℕ). IsTurnTold (run (run k a.before) a.since) cpu m r) (sym count)
-        (subst (λ (s : KernelState). IsTurnTold s cpu (length xs) r) (sym state) told)));
+    works = λ revokes S.
+        subst (IsWorkTold revokes S (run k a.before) (length a.before) (a.since ++ cpu ∷ [])) (sym (first revokes S))
+        (next_told revokes S (run k a.before) (length a.before) a.since cpu (first_lapse revokes S old) (r revokes S) (a.works revokes S)
+        (subst (λ (m : ℕ). IsTurnTold revokes S (run (run k a.before) a.since) cpu m (r revokes S)) (sym count)
+        (subst (λ (s : KernelState). IsTurnTold revokes S s cpu (length xs) (r revokes S)) (sym state) (told revokes S))));
   }
     where
       count : length a.before + length a.since ≡ length xs
@@ -189,13 +189,14 @@ module _ (from : ℕ) where
     lapses = λ start taken at len a. skipped start taken cpu list (subst (λ (m : ℕ). m < from) len less) a;
   }
 
-  pub notes : (k later : KernelState) (n cpu : ℕ) (old list : List Lapse) (r : Option Lapse) → from ≤ n → later ≡ after k cpu → IsTurnTold k cpu n r →
-      ((S : ℕ → Bool) → first_lapse S list ≡ option_or (first_lapse S old) (of_side S r)) → Continues from k n old (cpu ∷ []) later list
-  notes k later n cpu old list r late is told first = record {
+  pub notes : (k later : KernelState) (n cpu : ℕ) (old list : List Lapse) → from ≤ n → later ≡ after k cpu → HasTables k → Adds old list (λ revokes S. turn_lapse revokes S k cpu n) →
+      Continues from k n old (cpu ∷ []) later list
+  notes k later n cpu old list late is tables first = record {
     state = is;
     lapses = λ start taken at len a.
-        noted start taken cpu old list r (subst (λ (m : ℕ). from ≤ m) len late)
-        (subst (λ (m : ℕ). IsTurnTold (run start taken) cpu m r) len (subst (λ (s : KernelState). IsTurnTold s cpu n r) at told)) first a;
+        noted start taken cpu old list (λ revokes S. turn_lapse revokes S k cpu n) (subst (λ (m : ℕ). from ≤ m) len late)
+        (λ revokes S. subst (λ (m : ℕ). IsTurnTold revokes S (run start taken) cpu m (turn_lapse revokes S k cpu n)) len
+        (subst (λ (s : KernelState). IsTurnTold revokes S s cpu n (turn_lapse revokes S k cpu n)) at (turn_told revokes S k cpu n tables))) first a;
   }
 
   -- TURNS AFTER TURNS

@@ -1,239 +1,189 @@
--- Whether who acts in a turn creates, gives or revokes: by its state, and where it makes a hypercall by that, which is seen of the event.
-use Rattle.std.proofs.Common.{◌≡◌, ◌⊎◌, ℕ, ◌-◌, refl, sym, ap, ◌∙◌, subst, inl, inr, arith}
-use Rattle.std.specs.Prelude.{◌==◌, ◌&&◌, Bool, true, false, not, nat_le, nat_lt, Option, Some, None, option_and_then, option_map, if◌then◌else◌, Result, Ok, Err}
+-- Whether a side is at work in a turn: by the state of who acts, and where it makes a hypercall by that, which is seen of the event; and where it gives by who is amid a revoke.
+use Rattle.std.proofs.Common.{◌≡◌, ◌⊎◌, ℕ, ◌+◌, ◌-◌, refl, sym, ap, ◌∙◌, subst, inl, inr, arith}
+use Rattle.std.specs.Prelude.{◌==◌, ◌&&◌, Bool, true, false, not, nat_le, Option, Some, None, option_and_then, option_map, if◌then◌else◌}
 use Rattle.std.specs.Option.{option_or}
-use Rattle.std.proofs.lemmas.Bool.{and_parts, eqb-true, not_from_false}
+use Rattle.std.proofs.lemmas.Bool.{and_from, and_parts}
 use Rattle.std.proofs.lemmas.Bool.Decides.{nat_tests}
 use Rattle.std.proofs.lemmas.Option.{same_Some}
-use Rattle.rv_model.specs.Registers.{Registers}
-use Rattle.rv_model.specs.Step.{Once, Raised, Went, environment_call}
 use Rattle.nova_calls.specs.Hypercalls.{call_of}
-use Rattle.nova_calls.specs.declared.call.Call.{Call}
-use Rattle.nova_calls.specs.declared.call.Call.TheVariants.{CreatePd, CreateEc, CreateSc, CreatePt, CreateSm, Revoke, SmCtrl}
-use Rattle.nova_calls.specs.declared.call.SmAction.TheVariants.{DownWithin}
-use Rattle.nova_calls.specs.declared.numbers.TheConstants.{CREATE_EC, CREATE_PT, CREATE_SC, CREATE_SM}
-use Rattle.nova_range.specs.declared.range.Range.{Range}
-use Rattle.nova_range.specs.declared.rights.Rights.{Rights}
-use Rattle.nova_range.specs.declared.status.Status.{Status}
-use Rattle.nova_range.specs.declared.status.Status.TheVariants.{BadCap, BadCpu, Busy}
-use Rattle.nova_model.specs.Capabilities.{bind_portal_right, bind_scheduling_right, is_local, is_schedulable, named}
 use Rattle.nova_model.specs.Choice.{Candidate, choice, next_to_act, unless_due}
-use Rattle.nova_model.specs.Deeds.{deed, deed_in, instruction, ready, sign_of, signalled, stepping}
+use Rattle.nova_model.specs.Deeds.{deed, sign_of}
 use Rattle.nova_model.specs.Edges.{is_giving}
-use Rattle.nova_model.specs.Hypercalls.{and_then, hypercall, is_scheduled, maker, makes, new_domain, row, unless, unless_busy}
-use Rattle.nova_model.specs.Running.{is_revoked}
-use Rattle.nova_model.specs.State.{KernelState, context, context_at, context_in, is_thread, pd_of, processor_of}
+use Rattle.nova_model.specs.State.{KernelState, context, context_at, context_in, pd_of}
 use Rattle.nova_model.specs.Times.{Entry, Times, clock, due_on, if_due, next_entry, until_due}
 use Rattle.nova_model.specs.Turn.{answer_of, chosen_by, taken, turn, turn_by}
 use Rattle.nova_model.specs.declared.context.EcState.{EcState}
-use Rattle.nova_model.specs.declared.context.State.{State}
-use Rattle.nova_model.specs.declared.context.State.TheVariants.{Granting, Helping, Ready, Replying, Revoking}
-use Rattle.nova_model.specs.declared.deed.Deed.{Deed}
-use Rattle.nova_model.specs.declared.deed.Deed.TheVariants.{Makes}
-use Rattle.nova_model.specs.declared.event.EventKind.{EventKind}
 use Rattle.nova_model.specs.declared.event.Turn.{Turn}
-use Rattle.nova_model.specs.declared.new_object.NewObject.{NewObject}
-use Rattle.nova_model.specs.declared.new_object.NewObject.TheVariants as new
 use Rattle.nova_model.specs.declared.times.Due.{Due}
-use Rattle.law_forest.proofs.Walk.{IfDone, hypercall_holds}
-use Rattle.law_turns.specs.Asked.{IsCalling}
 use Rattle.law_integrity.specs.Rights.{Again, AtCall, IsAsking}
 use Rattle.law_turns.specs.Giving.{gives_no_first}
 use Rattle.law_turns.specs.Revoking.{is_revoking}
-use Rattle.law_flow.specs.Flow.{IsCallAtWork}
-use Rattle.nova_flowing.specs.Working.{IsWorking, kind_in, kind_of}
+use Rattle.law_integrity.specs.Confined.{Of}
+use Rattle.law_turns.specs.Tables.{HasTables}
+use Rattle.law_flow.specs.Flow.{IsCallAtWork, RevokesNothing, if_own, own_turn}
+use Rattle.nova_flowing.specs.Working.{IsWorking, is_of_side, is_revoke, kind_at, kind_in, kind_of}
 use Rattle.nova_flowing.specs.declared.lapse.Lapse.{Lapse}
 use Rattle.nova_flowing.specs.declared.lapse.LapseKind.{LapseKind}
-use Rattle.nova_watching.specs.Worked.{IsTurnTold, asks_in, doer_at, doer_in, is_due, is_instruction, lapse_by, lapse_in, lapse_kind, next_doer, own_lapse}
+use Rattle.nova_flowing.specs.declared.lapse.LapseKind.TheVariants.{Creates, Gives, Revokes}
+use Rattle.nova_watching.specs.Worked.{IsLapse, IsTurnTold, asks_in, doer_at, doer_in, first_gift, gift_in, is_due, lapse_by, lapse_in, lapse_in_turn, lapse_kind, next_doer, of_side, turn_lapse}
 use Rattle.nova_watching.specs.declared.work.Doer.{Doer}
+use Rattle.nova_watching.proofs.Calling.{asking_from, from_asking, not_both}
+use Rattle.nova_watching.proofs.Gifts.{doer_with, gift_is, idle_asks, none_amid}
+use Rattle.nova_watching.proofs.Doings.{call_creates, call_revokes, call_works, first_state, gift_state, no_gift, revoke_state, revokes_call, state_calm, state_gives, state_revokes}
 
--- WHAT COMES OF CREATES AND REVOKES IS NO INSTRUCTION
+module _ (revokes : Bool) (S : ℕ → Bool) (k : KernelState) (cpu n : ℕ) where
+  -- nobody acts
+  none_acts : next_to_act k cpu ≡ None → IsTurnTold revokes S k cpu n None
+  none_acts none ec sc own = absurd (let both : None ≡ Some (ec, sc) = sym (ap (option_and_then (λ (c : Candidate). if_own (S (pd_of k c.actor)) c)) none) ∙ own in cc)
 
-abbrev Answers : Deed → Type 0
-Answers d = is_instruction (sign_of d).0 ≡ false
+  module _ (c : Candidate) (next : next_to_act k cpu ≡ Some c) where
+    abbrev here : Doer
+    here = doer_with k c.actor (context k c.actor)
 
-next_done : {A : Type 0} (o : Result A Status) (f : A → Result Deed Status) → ((x : A) → IfDone Answers (f x)) → IfDone Answers (and_then o f)
-next_done (Err status) f h = tt
-next_done (Ok x) f h = h x
+    own_is : own_turn S k cpu ≡ if_own (S (pd_of k c.actor)) c
+    own_is = ap (option_and_then (λ (d : Candidate). if_own (S (pd_of k d.actor)) d)) next
 
-unless_done : (t : Bool) (status : Status) (d : Deed) → Answers d → IfDone Answers (unless t status (Ok d))
-unless_done true status d h = tt
-unless_done false status d h = h
+    -- whose turn it is, where it is the side's
+    mine_by : (ec sc : ℕ) → own_turn S k cpu ≡ Some (ec, sc) → (S (pd_of k c.actor) ≡ true) × (c.actor ≡ ec)
+    mine_by ec sc own = by_test (S (pd_of k c.actor)) refl (sym own_is ∙ own)
+      where
+        by_test : (b : Bool) → S (pd_of k c.actor) ≡ b → if_own b c ≡ Some (ec, sc) → (S (pd_of k c.actor) ≡ true) × (c.actor ≡ ec)
+        by_test true is h = (is, ap (λ (p : ℕ × ℕ). p.0) (same_Some (c.actor, c.sc) (ec, sc) h))
+        by_test false is h = absurd (cc)
 
-makes_answers : (k : KernelState) (domain call target selector : ℕ) (made : ℕ → Result NewObject Status) → IfDone Answers (makes k domain call target selector made)
-makes_answers k domain call target selector made =
-    next_done (maker k domain target selector) (λ owner. and_then (made owner) (λ o. unless_busy k domain target (Makes call target o))) (λ owner.
-    next_done (made owner) (λ o. unless_busy k domain target (Makes call target o)) (λ o. unless_done (is_revoked k domain target) Busy (Makes call target o) refl))
+    works_if : (S (pd_of k c.actor) ≡ true → IsWorking revokes S k c.actor) → IsTurnTold revokes S k cpu n None
+    works_if works ec sc own = let its = mine_by ec sc own in subst (IsWorking revokes S k) its.1 (works its.0)
 
-domain_answers : (k : KernelState) (target : ℕ) (first : Option (Range × Rights)) → Answers (new_domain k target first)
-domain_answers k target None = refl
-domain_answers k target (Some range) = refl
+    -- it is at work
+    calm_works : kind_in (context k c.actor).state ≡ None → (IsAsking k c.actor → IsCallAtWork (Unit {0}) (revokes ≡ true) (call_of (context k c.actor).regs)) → IsWorking revokes S k c.actor
+    calm_works none calls = record {
+      state = state_calm (context k c.actor).state none;
+      calls = calls;
+      gives = λ is. absurd (state_gives (context k c.actor).state none is);
+      revokes = λ is. absurd (state_revokes (context k c.actor).state none is);
+    }
 
-row_answers : (k : KernelState) (ec domain : ℕ) (c : Call) (kind : LapseKind) → kind_of (Ok c) ≡ Some kind → IfDone Answers (row k ec domain c)
-row_answers k ec domain (CreatePd target pd first) kind is =
-    next_done (maker k domain target pd) (λ owner. unless_busy k domain target (new_domain k target first)) (λ owner.
-    unless_done (is_revoked k domain target) Busy (new_domain k target first) (domain_answers k target first))
-row_answers k ec domain (CreateEc target pd cpu its sp event) kind is = makes_answers k domain CREATE_EC target pd (λ owner. unless (not (nat_lt cpu k.cpus)) BadCpu (Ok (new.Ec owner cpu its sp event)))
-row_answers k ec domain (CreateSc target pd whose quantum priority) kind is =
-    makes_answers k domain CREATE_SC target pd
-    (λ owner. and_then (named k domain is_schedulable bind_scheduling_right whose) (λ e. unless (is_scheduled k e) BadCap (Ok (new.Sc e (processor_of k e) priority quantum))))
-row_answers k ec domain (CreatePt target pd handler mtd ip) kind is = makes_answers k domain CREATE_PT target pd (λ owner. and_then (named k domain is_local bind_portal_right handler) (λ h. Ok (new.Pt h mtd.0 ip)))
-row_answers k ec domain (CreateSm target pd count) kind is = makes_answers k domain CREATE_SM target pd (λ owner. Ok (new.Sm count))
-row_answers k ec domain (Revoke range own) kind is = refl
-row_answers k ec domain other kind is = absurd (cc)
+    gift_works : kind_in (context k c.actor).state ≡ Some Gives → RevokesNothing k (Of S) → IsWorking revokes S k c.actor
+    gift_works is none =
+        let g = gift_state (context k c.actor).state is in
+        record { state = g.calm; calls = λ asking. absurd (idle_asks k c.actor Gives is asking); gives = λ gives. none; revokes = λ amid. absurd (g.stays amid) }
 
-call_answers : (k : KernelState) (ec domain : ℕ) (r : Registers) (kind : LapseKind) → kind_of (call_of r) ≡ Some kind → Answers (hypercall k ec domain r)
-call_answers k ec domain r kind h = hypercall_holds Answers k ec domain r (λ call status. refl) (λ c is. row_answers k ec domain c kind (sym (ap kind_of is) ∙ h))
+    revoke_works : kind_in (context k c.actor).state ≡ Some Revokes → revokes ≡ true → IsWorking revokes S k c.actor
+    revoke_works is may =
+        let g = revoke_state (context k c.actor).state is in
+        record { state = g.calm; calls = λ asking. absurd (idle_asks k c.actor Revokes is asking); gives = λ gives. absurd (g.keeps gives); revokes = λ amid. may }
 
--- AT WORK, BY KINDS
+    -- or it lapses
+    lapse_of : (l : Lapse) → l.ec ≡ c.actor → l.pd ≡ pd_of k c.actor → S l.pd ≡ true → (IsWorking revokes S k c.actor → ⊥) → kind_at k c.actor ≡ Some l.kind → l.turn ≡ n + 1 → IsLapse revokes S k cpu n l
+    lapse_of l ec pd s never kind turn = record {
+      sc = c.sc;
+      acts = own_is ∙ ap (λ (b : Bool). if_own b c) (ap S (sym pd) ∙ s) ∙ ap (λ (m : ℕ). Some (m, c.sc)) (sym ec);
+      lapses = λ works. never (subst (IsWorking revokes S k) ec works);
+      kind = ap (kind_at k) ec ∙ kind;
+      turn = turn;
+    }
 
-state_works : (s : State) → kind_in s ≡ None → gives_no_first s ≡ true
-state_works (Granting new) is = absurd (cc)
-state_works Replying is = absurd (cc)
-state_works other is = refl
+    by_state_kind : (kind : LapseKind) → kind_in (context k c.actor).state ≡ Some kind → kind_at k c.actor ≡ Some kind
+    by_state_kind kind is = ap (λ (o : Option LapseKind). option_or o (kind_of (call_of (context k c.actor).regs))) is
 
-state_gives : (s : State) → kind_in s ≡ None → is_giving s ≡ true → ⊥
-state_gives (Granting new) is gives = absurd (cc)
-state_gives Replying is gives = absurd (cc)
-state_gives other is gives = absurd (cc)
+    by_call_kind : (kind : LapseKind) → kind_in (context k c.actor).state ≡ None → kind_of (call_of (context k c.actor).regs) ≡ Some kind → kind_at k c.actor ≡ Some kind
+    by_call_kind kind none is = ap (λ (o : Option LapseKind). option_or o (kind_of (call_of (context k c.actor).regs))) none ∙ is
 
-state_revokes : (s : State) → kind_in s ≡ None → is_revoking s ≡ true → ⊥
-state_revokes (Revoking range own) is revokes = absurd (cc)
-state_revokes other is revokes = absurd (cc)
+    -- what gives
+    gifts_told : kind_in (context k c.actor).state ≡ Some Gives → HasTables k → (o : Option Lapse) → first_gift revokes S k n here ≡ o → IsTurnTold revokes S k cpu n o
+    gifts_told is tables None none = works_if (λ mine. gift_works is (none_amid revokes S k n here tables mine none))
+    gifts_told is tables (Some l) first =
+        let g = gift_is revokes S k n here l first in
+        let b = g.0 in
+        let both = and_parts (S l.pd) (S l.amid) (and_parts (S l.pd && S l.amid) (not (revokes && is_revoke l.kind)) g.1).0 in
+        let amid = b.beside in
+        lapse_of l b.ec b.pd both.0 (λ works. works.gives (gift_state (context k c.actor).state is).gives amid.who amid.range amid.own amid.state (ap S amid.of ∙ both.1))
+        (by_state_kind Gives is ∙ ap Some (sym b.kind)) b.turn
 
-state_lapses : (s : State) (kind : LapseKind) → kind_in s ≡ Some kind → (is_giving s ≡ true → ⊥) → (is_revoking s ≡ true → ⊥) → ⊥
-state_lapses (Granting new) kind is none never = none refl
-state_lapses Replying kind is none never = none refl
-state_lapses (Revoking range own) kind is none never = never refl
-state_lapses other kind is none never = absurd (cc)
+    -- what is a lapse by itself
+    abbrev alone : LapseKind → Lapse
+    alone kind = record { turn = n + 1; ec = c.actor; pd = pd_of k c.actor; amid = pd_of k c.actor; kind = kind }
 
-call_works : (r : Result Call Status) → kind_of r ≡ None → IsCallAtWork (Unit {0}) ⊥ r
-call_works (Ok (CreatePd target pd first)) is = absurd (cc)
-call_works (Ok (CreateEc target pd cpu kind sp event)) is = absurd (cc)
-call_works (Ok (CreateSc target pd whose quantum priority)) is = absurd (cc)
-call_works (Ok (CreatePt target pd handler mtd ip)) is = absurd (cc)
-call_works (Ok (CreateSm target pd count)) is = absurd (cc)
-call_works (Ok (Revoke range own)) is = absurd (cc)
-call_works (Ok (SmCtrl sm (DownWithin ticks))) is = tt
-call_works other is = tt
+    alone_told : (kind : LapseKind) → kind_at k c.actor ≡ Some kind → (not (revokes && is_revoke kind) ≡ true → IsWorking revokes S k c.actor → ⊥) →
+        (not (revokes && is_revoke kind) ≡ false → IsWorking revokes S k c.actor) → IsTurnTold revokes S k cpu n (of_side revokes S (Some (alone kind)))
+    alone_told kind is never works = by_test (is_of_side revokes S (alone kind)) refl
+      where
+        by_may : S (pd_of k c.actor) ≡ true → is_of_side revokes S (alone kind) ≡ false → (b : Bool) → not (revokes && is_revoke kind) ≡ b → IsWorking revokes S k c.actor
+        by_may mine off true counts =
+            absurd (not_both (is_of_side revokes S (alone kind))
+            (and_from (S (pd_of k c.actor) && S (pd_of k c.actor)) (not (revokes && is_revoke kind)) (and_from (S (pd_of k c.actor)) (S (pd_of k c.actor)) mine mine) counts) off)
+        by_may mine off false counts = works counts
 
-call_lapses : (r : Result Call Status) (kind : LapseKind) → kind_of r ≡ Some kind → IsCallAtWork (Unit {0}) ⊥ r → ⊥
-call_lapses (Ok (CreatePd target pd first)) kind is works = works
-call_lapses (Ok (CreateEc target pd cpu its sp event)) kind is works = works
-call_lapses (Ok (CreateSc target pd whose quantum priority)) kind is works = works
-call_lapses (Ok (CreatePt target pd handler mtd ip)) kind is works = works
-call_lapses (Ok (CreateSm target pd count)) kind is works = works
-call_lapses (Ok (Revoke range own)) kind is works = works
-call_lapses other kind is works = absurd (cc)
+        by_test : (b : Bool) → is_of_side revokes S (alone kind) ≡ b → IsTurnTold revokes S k cpu n (if b then Some (alone kind) else None)
+        by_test true its =
+            let parts = and_parts (S (pd_of k c.actor) && S (pd_of k c.actor)) (not (revokes && is_revoke kind)) its in
+            lapse_of (alone kind) refl refl (and_parts (S (pd_of k c.actor)) (S (pd_of k c.actor)) parts.0).0 (never parts.1) is refl
+        by_test false its = works_if (λ mine. by_may mine its (not (revokes && is_revoke kind)) refl)
 
--- WHO ASKS
+    -- where a revoke counts it isn't allowed
+    counts_not : (b : Bool) → not (b && true) ≡ true → b ≡ true → ⊥
+    counts_not true counts may = absurd (cc)
+    counts_not false counts may = absurd (cc)
 
-not_both : {A : Type 0} (b : Bool) → b ≡ true → b ≡ false → A
-not_both true passes fails = absurd (cc)
-not_both false passes fails = absurd (cc)
+    allows_it : (b : Bool) → not (b && true) ≡ false → b ≡ true
+    allows_it true off = refl
+    allows_it false off = absurd (cc)
 
-module _ (k : KernelState) (ec : ℕ) where
-  abbrev sign : EventKind
-  sign = (sign_of (deed k ec)).0
+    counts_always : (b : Bool) → not (b && false) ≡ false → ⊥
+    counts_always true off = absurd (cc)
+    counts_always false off = absurd (cc)
 
-  -- one that is ready makes a hypercall where no instruction comes of its turn
-  calling_from : (context k ec).state ≡ Ready → not (is_instruction (sign_of (deed_in k ec Ready)).0) ≡ true → IsCalling k ec
-  calling_from state h = by_recall (context k ec).recall refl h
-    where
-      by_signal : (context k ec).recall ≡ false → (reason q0 q1 : ℕ) → instruction k ec ≡ Raised reason q0 q1 → (t : Bool) → ((reason == environment_call) && is_thread k ec) ≡ t →
-          not (is_instruction (sign_of (signalled k ec reason q0 q1 t)).0) ≡ true → IsCalling k ec
-      by_signal none reason q0 q1 at false is says = absurd (cc)
-      by_signal none reason q0 q1 at true is says =
-          let parts = and_parts (reason == environment_call) (is_thread k ec) is in
-          record { state = state; recall = none; thread = parts.1; q0 = q0; q1 = q1; raises = at ∙ ap (λ (n : ℕ). Raised n q0 q1) (eqb-true reason environment_call parts.0) }
+    told_with : HasTables k → IsTurnTold revokes S k cpu n
+        (option_or (gift_in revokes S k n here (kind_in (context k c.actor).state)) (of_side revokes S (lapse_by n here (lapse_kind here (sign_of (deed k c.actor)).0))))
+    told_with tables = by_state (kind_in (context k c.actor).state) refl
+      where
+        calls_none : kind_of (call_of (context k c.actor).regs) ≡ None → IsAsking k c.actor → IsCallAtWork (Unit {0}) (revokes ≡ true) (call_of (context k c.actor).regs)
+        calls_none two asking = call_works (revokes ≡ true) (call_of (context k c.actor).regs) two
 
-      by_once : (context k ec).recall ≡ false → (o : Once) → instruction k ec ≡ o → not (is_instruction (sign_of (stepping k ec o)).0) ≡ true → IsCalling k ec
-      by_once none (Went regs store) at says = absurd (cc)
-      by_once none (Raised reason q0 q1) at says = by_signal none reason q0 q1 at ((reason == environment_call) && is_thread k ec) refl says
+        by_kind : kind_in (context k c.actor).state ≡ None → (kind : LapseKind) → kind_of (call_of (context k c.actor).regs) ≡ Some kind → asks_in (context k c.actor).state (sign_of (deed k c.actor)).0 ≡ true →
+            IsTurnTold revokes S k cpu n (of_side revokes S (lapse_by n here (Some kind)))
+        by_kind one Creates two three =
+            alone_told Creates (by_call_kind Creates one two)
+            (λ counts works. call_creates (revokes ≡ true) (call_of (context k c.actor).regs) two (works.calls (asking_from k c.actor three))) (λ off. absurd (counts_always revokes off))
+        by_kind one Gives two three = absurd (no_gift (call_of (context k c.actor).regs) two)
+        by_kind one Revokes two three =
+            alone_told Revokes (by_call_kind Revokes one two)
+            (λ counts works. counts_not revokes counts (call_revokes (revokes ≡ true) (call_of (context k c.actor).regs) two (works.calls (asking_from k c.actor three))))
+            (λ off. calm_works one (λ asking. revokes_call (revokes ≡ true) (call_of (context k c.actor).regs) two (allows_it revokes off)))
 
-      by_recall : (t : Bool) → (context k ec).recall ≡ t → not (is_instruction (sign_of (ready k ec t)).0) ≡ true → IsCalling k ec
-      by_recall true is says = absurd (cc)
-      by_recall false none says = by_once none (instruction k ec) refl says
+        by_asks : kind_in (context k c.actor).state ≡ None → (kind : LapseKind) → kind_of (call_of (context k c.actor).regs) ≡ Some kind → (asks : Bool) → asks_in (context k c.actor).state (sign_of (deed k c.actor)).0 ≡ asks →
+            IsTurnTold revokes S k cpu n (of_side revokes S (lapse_by n here (lapse_in (Some kind) asks)))
+        by_asks one kind two true three = by_kind one kind two three
+        by_asks one kind two false three =
+            works_if (λ mine. calm_works one (λ asking. not_both (asks_in (context k c.actor).state (sign_of (deed k c.actor)).0) (from_asking k c.actor kind two asking) three))
 
-  asking_from : asks_in (context k ec).state sign ≡ true → IsAsking k ec
-  unfolding deed
-  asking_from h = by_state (context k ec).state refl h
-    where
-      by_state : (s : State) → (context k ec).state ≡ s → asks_in s (sign_of (deed_in k ec (context k ec).state)).0 ≡ true → IsAsking k ec
-      by_state Ready is says = AtCall (calling_from is (sym (ap (λ (s : State). not (is_instruction (sign_of (deed_in k ec s)).0)) is) ∙ says))
-      by_state (Helping handler) is says = Again handler is
-      by_state other is says = absurd (cc)
+        by_call : kind_in (context k c.actor).state ≡ None → (call : Option LapseKind) → kind_of (call_of (context k c.actor).regs) ≡ call → (asks : Bool) → asks_in (context k c.actor).state (sign_of (deed k c.actor)).0 ≡ asks →
+            IsTurnTold revokes S k cpu n (of_side revokes S (lapse_by n here (lapse_in call asks)))
+        by_call one None two true three = works_if (λ mine. calm_works one (calls_none two))
+        by_call one None two false three = works_if (λ mine. calm_works one (calls_none two))
+        by_call one (Some kind) two asks three = by_asks one kind two asks three
 
-  -- who calls does its hypercall
-  calling_does : IsCalling k ec → deed k ec ≡ hypercall k ec (pd_of k ec) (context k ec).regs
-  unfolding deed
-  calling_does c =
-      ap (deed_in k ec) c.state ∙ ap (ready k ec) c.recall ∙ ap (stepping k ec) c.raises
-      ∙ ap (λ (t : Bool). signalled k ec environment_call c.q0 c.q1 ((environment_call == environment_call) && t)) c.thread
-
-  from_asking : (kind : LapseKind) → kind_of (call_of (context k ec).regs) ≡ Some kind → IsAsking k ec → asks_in (context k ec).state sign ≡ true
-  from_asking kind h (AtCall c) =
-      ap (λ (s : State). asks_in s sign) c.state
-      ∙ not_from_false (is_instruction sign) (ap (λ (d : Deed). is_instruction (sign_of d).0) (calling_does c) ∙ call_answers k ec (pd_of k ec) (context k ec).regs kind h)
-  from_asking kind h (Again handler is) = ap (λ (s : State). asks_in s sign) is
-
--- A TURN
-
-abbrev doer_with : KernelState → ℕ → EcState → Doer
-doer_with k ec x = record { ec = ec; pd = pd_of k ec; state = x.state; call = kind_of (call_of x.regs) }
-
-module _ (k : KernelState) (cpu n : ℕ) where
-  works_of : (c : Candidate) → next_to_act k cpu ≡ Some c → IsWorking k c.actor → IsTurnTold k cpu n None
-  works_of c is works = λ d also. subst (λ (e : Candidate). IsWorking k e.actor) (same_Some c d (sym is ∙ also)) works
-
-  none_acts : next_to_act k cpu ≡ None → IsTurnTold k cpu n None
-  none_acts none = λ d is. absurd (let both : None ≡ Some d = sym none ∙ is in cc)
-
-  told_with : (c : Candidate) → next_to_act k cpu ≡ Some c →
-      IsTurnTold k cpu n (lapse_by n (doer_with k c.actor (context k c.actor)) (lapse_kind (doer_with k c.actor (context k c.actor)) (sign_of (deed k c.actor)).0))
-  told_with c next =
-      by_parts (kind_in (context k c.actor).state) refl (kind_of (call_of (context k c.actor).regs)) refl (asks_in (context k c.actor).state (sign_of (deed k c.actor)).0) refl
-    where
-      by_parts : (state : Option LapseKind) → kind_in (context k c.actor).state ≡ state → (call : Option LapseKind) → kind_of (call_of (context k c.actor).regs) ≡ call →
-          (asks : Bool) → asks_in (context k c.actor).state (sign_of (deed k c.actor)).0 ≡ asks →
-          IsTurnTold k cpu n (lapse_by n (doer_with k c.actor (context k c.actor)) (option_or state (lapse_in call asks)))
-      by_parts (Some kind) one call two asks three = record {
-        chosen = c;
-        next = next;
-        ec = refl;
-        pd = refl;
-        lapses = λ works. state_lapses (context k c.actor).state kind one works.gives works.revokes;
-        kind = ap (λ (o : Option LapseKind). option_or o (kind_of (call_of (context k c.actor).regs))) one;
-        turn = refl;
-      }
-      by_parts None one None two true three =
-          works_of c next (record { state = state_works (context k c.actor).state one; calls = λ asking. call_works (call_of (context k c.actor).regs) two; gives = state_gives (context k c.actor).state one; revokes = state_revokes (context k c.actor).state one })
-      by_parts None one None two false three =
-          works_of c next (record { state = state_works (context k c.actor).state one; calls = λ asking. call_works (call_of (context k c.actor).regs) two; gives = state_gives (context k c.actor).state one; revokes = state_revokes (context k c.actor).state one })
-      by_parts None one (Some kind) two true three = record {
-        chosen = c;
-        next = next;
-        ec = refl;
-        pd = refl;
-        lapses = λ works. call_lapses (call_of (context k c.actor).regs) kind two (works.calls (asking_from k c.actor three));
-        kind = ap (λ (o : Option LapseKind). option_or o (kind_of (call_of (context k c.actor).regs))) one ∙ two;
-        turn = refl;
-      }
-      by_parts None one (Some kind) two false three =
-          works_of c next (record {
-            state = state_works (context k c.actor).state one;
-            calls = λ asking. not_both (asks_in (context k c.actor).state (sign_of (deed k c.actor)).0) (from_asking k c.actor kind two asking) three;
-            gives = state_gives (context k c.actor).state one;
-            revokes = state_revokes (context k c.actor).state one;
-          })
+        by_state : (state : Option LapseKind) → kind_in (context k c.actor).state ≡ state → IsTurnTold revokes S k cpu n
+            (option_or (gift_in revokes S k n here state) (of_side revokes S (lapse_by n here (option_or state (lapse_in (kind_of (call_of (context k c.actor).regs)) (asks_in (context k c.actor).state (sign_of (deed k c.actor)).0))))))
+        by_state (Some Creates) one =
+            alone_told Creates (by_state_kind Creates one) (λ counts works. first_state (context k c.actor).state one works.state) (λ off. absurd (counts_always revokes off))
+        by_state (Some Gives) one = subst (IsTurnTold revokes S k cpu n) (sym (no_more (first_gift revokes S k n here))) (gifts_told one tables (first_gift revokes S k n here) refl)
+          where
+            no_more : (o : Option Lapse) → option_or o None ≡ o
+            no_more None = refl
+            no_more (Some l) = refl
+        by_state (Some Revokes) one =
+            alone_told Revokes (by_state_kind Revokes one) (λ counts works. counts_not revokes counts (works.revokes (revoke_state (context k c.actor).state one).revokes))
+            (λ off. revoke_works one (allows_it revokes off))
+        by_state None one = by_call one (kind_of (call_of (context k c.actor).regs)) refl (asks_in (context k c.actor).state (sign_of (deed k c.actor)).0) refl
 
   -- a number without an execution context does nothing
-  nobody_works : (ec : ℕ) → context_at k ec ≡ None → IsWorking k ec
+  nobody_works : (ec : ℕ) → context_at k ec ≡ None → IsWorking revokes S k ec
   nobody_works ec none = record {
     state = ap (λ (o : Option EcState). gives_no_first (context_in o).state) none;
     calls = λ asking. absurd (by_asking asking);
     gives = λ gives. absurd (let both = sym (ap (λ (o : Option EcState). is_giving (context_in o).state) none) ∙ gives in cc);
-    revokes = λ revokes. absurd (let both = sym (ap (λ (o : Option EcState). is_revoking (context_in o).state) none) ∙ revokes in cc);
+    revokes = λ amid. absurd (let both = sym (ap (λ (o : Option EcState). is_revoking (context_in o).state) none) ∙ amid in cc);
   }
     where
       by_asking : IsAsking k ec → ⊥
@@ -287,34 +237,36 @@ unfolding turn
 turn_chosen k cpu c early is = ap (turn_by k cpu) early ∙ ap (chosen_by k cpu) is
 
 -- what is told of a turn
-pub turn_told : (k : KernelState) (cpu n : ℕ) (r : Option Lapse) → r ≡ own_lapse n (next_doer k cpu (is_due (until_due k.times cpu))) (answer_of (turn k cpu)) → IsTurnTold k cpu n r
-turn_told k cpu n r same = subst (IsTurnTold k cpu n) (sym same) (elim (late_or_early k.times cpu) [
+pub turn_told : (revokes : Bool) (S : ℕ → Bool) (k : KernelState) (cpu n : ℕ) → HasTables k → IsTurnTold revokes S k cpu n (turn_lapse revokes S k cpu n)
+turn_told revokes S k cpu n tables = elim (late_or_early k.times cpu) [
   | inl late ↦ by_late late
   | inr early ↦ by_choice early (choice k cpu) refl
-])
+]
   where
     answer : Turn
     answer = answer_of (turn k cpu)
 
-    by_late : IsLate k.times cpu → IsTurnTold k cpu n (own_lapse n (next_doer k cpu (is_due (until_due k.times cpu))) answer)
+    by_late : IsLate k.times cpu → IsTurnTold revokes S k cpu n (lapse_in_turn revokes S k n (next_doer k cpu (is_due (until_due k.times cpu))) answer)
     by_late late =
-        subst (λ (b : Bool). IsTurnTold k cpu n (own_lapse n (next_doer k cpu b) answer)) (sym late.test)
-        (none_acts k cpu n (next_is k cpu (Some late.what) (choice k cpu) late.due refl))
+        subst (λ (b : Bool). IsTurnTold revokes S k cpu n (lapse_in_turn revokes S k n (next_doer k cpu b) answer)) (sym late.test)
+        (none_acts revokes S k cpu n (next_is k cpu (Some late.what) (choice k cpu) late.due refl))
 
     by_context : (c : Candidate) → next_to_act k cpu ≡ Some c → (o : Option EcState) → context_at k c.actor ≡ o →
-        IsTurnTold k cpu n (own_lapse n (doer_in k c.actor o) (answer_of (Some (taken k cpu c (deed k c.actor)))))
-    by_context c next None at = works_of k cpu n c next (nobody_works k cpu n c.actor at)
+        IsTurnTold revokes S k cpu n (lapse_in_turn revokes S k n (doer_in k c.actor o) (answer_of (Some (taken k cpu c (deed k c.actor)))))
+    by_context c next None at = works_if revokes S k cpu n c next (λ mine. nobody_works revokes S k cpu n c.actor at)
     by_context c next (Some x) at =
         let here : context k c.actor ≡ x = ap context_in at in
-        subst (λ (y : EcState). IsTurnTold k cpu n (lapse_by n (doer_with k c.actor y) (lapse_kind (doer_with k c.actor y) (sign_of (deed k c.actor)).0))) here (told_with k cpu n c next)
+        subst (λ (y : EcState). IsTurnTold revokes S k cpu n
+        (option_or (gift_in revokes S k n (doer_with k c.actor y) (kind_in y.state)) (of_side revokes S (lapse_by n (doer_with k c.actor y) (lapse_kind (doer_with k c.actor y) (sign_of (deed k c.actor)).0))))) here
+        (told_with revokes S k cpu n c next tables)
 
-    by_choice : IsEarly k.times cpu → (o : Option Candidate) → choice k cpu ≡ o → IsTurnTold k cpu n (own_lapse n (next_doer k cpu (is_due (until_due k.times cpu))) answer)
+    by_choice : IsEarly k.times cpu → (o : Option Candidate) → choice k cpu ≡ o → IsTurnTold revokes S k cpu n (lapse_in_turn revokes S k n (next_doer k cpu (is_due (until_due k.times cpu))) answer)
     by_choice early None is =
-        subst (λ (b : Bool). IsTurnTold k cpu n (own_lapse n (next_doer k cpu b) answer)) (sym early.test)
-        (subst (λ (o : Option Candidate). IsTurnTold k cpu n (own_lapse n (option_and_then (doer_at k) (option_map (λ (c : Candidate). c.actor) o)) answer)) (sym is)
-        (none_acts k cpu n (next_is k cpu None None early.none is)))
+        subst (λ (b : Bool). IsTurnTold revokes S k cpu n (lapse_in_turn revokes S k n (next_doer k cpu b) answer)) (sym early.test)
+        (subst (λ (o : Option Candidate). IsTurnTold revokes S k cpu n (lapse_in_turn revokes S k n (option_and_then (doer_at k) (option_map (λ (c : Candidate). c.actor) o)) answer)) (sym is)
+        (none_acts revokes S k cpu n (next_is k cpu None None early.none is)))
     by_choice early (Some c) is =
-        subst (λ (b : Bool). IsTurnTold k cpu n (own_lapse n (next_doer k cpu b) answer)) (sym early.test)
-        (subst (λ (o : Option Candidate). IsTurnTold k cpu n (own_lapse n (option_and_then (doer_at k) (option_map (λ (d : Candidate). d.actor) o)) answer)) (sym is)
-        (subst (λ (t : Turn). IsTurnTold k cpu n (own_lapse n (doer_at k c.actor) t)) (sym (ap answer_of (turn_chosen k cpu c early.none is)))
+        subst (λ (b : Bool). IsTurnTold revokes S k cpu n (lapse_in_turn revokes S k n (next_doer k cpu b) answer)) (sym early.test)
+        (subst (λ (o : Option Candidate). IsTurnTold revokes S k cpu n (lapse_in_turn revokes S k n (option_and_then (doer_at k) (option_map (λ (d : Candidate). d.actor) o)) answer)) (sym is)
+        (subst (λ (t : Turn). IsTurnTold revokes S k cpu n (lapse_in_turn revokes S k n (doer_at k c.actor) t)) (sym (ap answer_of (turn_chosen k cpu c early.none is)))
         (by_context c (next_is k cpu None (Some c) early.none is) (context_at k c.actor) refl)))

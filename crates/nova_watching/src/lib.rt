@@ -1,4 +1,4 @@
-//! What is told of a run: the first state in which the sides of a policy aren't isolated, and until which turn sides are at work, and neither give nor revoke.
+//! What is told of a run: the first state in which the sides of a policy aren't isolated, and until which turn sides are at work.
 #![tactic(auto)]
 
 mod states;

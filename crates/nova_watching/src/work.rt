@@ -1,14 +1,16 @@
-// Until which turn of a run sides are at work, and neither give nor revoke.
-ghost use Rattle.std.specs.Prelude.{◌≡◌, ◌+◌, ◌<◌, ◌≤◌, ◌^◌, ◌==◌, ◌∷◌, [], ℕ, Bool, IfOk, IsTrue, OnOk, None, Some, false, option_copied, option_map, replicate, slice_get};
+// Until which turn of a run sides are at work.
+ghost use Rattle.std.specs.Prelude.{◌≡◌, ◌+◌, ◌<◌, ◌≤◌, ◌^◌, ◌∷◌, [], IfOk, IsTrue, OnOk, Some, false, option_copied, option_map, replicate, slice_get};
 ghost use Rattle.std.specs.List.{list_any};
 ghost use Rattle.std.specs.Option.{option_or};
 ghost use Rattle.nova_model.specs.Runs.{after};
+ghost use Rattle.law_turns.specs.Tables.{HasTables};
 ghost use Rattle.nova_model.specs.State.{context_at, pd_of};
 ghost use Rattle.nova_model.specs.Times.{until_due};
 ghost use Rattle.nova_order.specs.Blocks.{is_within, total, turns};
-ghost use Rattle.nova_flowing.specs.Working.{first_lapse, kind_in, kind_of};
+ghost use Rattle.nova_flowing.specs.Leaks.{first_some};
+ghost use Rattle.nova_flowing.specs.Working.{is_revoke, kind_in, kind_of};
 ghost use Rattle.nova_flowing.specs.declared.lapse.Lapse.{Lapse};
-ghost use Rattle.nova_watching.specs.Worked.{AreLapses, Continues, IsTurnTold, asks_in, doer_in, is_due, is_instruction, lapse_by, lapse_in, lapse_kind, next_doer, of_side, own_lapse};
+ghost use Rattle.nova_watching.specs.Worked.{Adds, AreLapses, Continues, asks_in, doer_in, doer_on, first_gift, gift_at, gift_beside, gift_by, gift_of, is_due, is_gift, is_instruction, is_like, lapse_by, lapse_in, lapse_kind, next_doer, of_side, own_lapse, turn_lapse};
 
 use nova_calls::{Call, read_call};
 use nova_flowing::{Lapse, LapseKind};
@@ -31,7 +33,8 @@ fn kind_in(state: State) -> Option<LapseKind>
     ensures { result ≡ kind_in state }
 {
     match state {
-        State::Granting(_) | State::Replying => Some(LapseKind::Gives),
+        State::Granting(Some(_)) => Some(LapseKind::Creates),
+        State::Granting(None) | State::Replying => Some(LapseKind::Gives),
         State::Revoking(..) => Some(LapseKind::Revokes),
         _ => None,
     }
@@ -89,7 +92,7 @@ fn chosen_doer(kernel: &Kernel, cpu: u32) -> Option<Doer>
 
 /// Who acts in the next turn of a processor.
 fn next_doer(kernel: &Kernel, cpu: u32) -> Option<Doer>
-    ensures { result ≡ next_doer kernel.now.state cpu (is_due (until_due kernel.now.state.times cpu)) }
+    ensures { result ≡ doer_on kernel.now.state cpu }
 {
     if is_due(kernel, cpu) {
         None
@@ -128,18 +131,21 @@ fn lapse_kind(doer: Doer, kind: EventKind) -> Option<LapseKind>
     kind_in(doer.state).or(call_asked(doer.call, asks_in(doer.state, kind)))
 }
 
-/// The turn, after so many, that came to this event, if one creates, gives or revokes in it.
+/// The turn, after so many, that came to this event, if one creates or revokes in it.
 fn lapse_by(doer: Doer, event: Event, done: u64) -> Option<Lapse>
     requires { done + 1 < 2 ^ 64 }
     ensures { result ≡ lapse_by done doer (lapse_kind doer event.kind) }
 {
-    let kind = lapse_kind(doer, event.kind)?;
-    Some(Lapse {
-        turn: done + 1,
-        ec: doer.ec,
-        pd: doer.pd,
-        kind,
-    })
+    match lapse_kind(doer, event.kind)? {
+        LapseKind::Gives => None,
+        kind => Some(Lapse {
+            turn: done + 1,
+            ec: doer.ec,
+            pd: doer.pd,
+            amid: doer.pd,
+            kind,
+        }),
+    }
 }
 
 /// The same of a turn that may be idle.
@@ -154,47 +160,148 @@ fn own_lapse(doer: Option<Doer>, turn: Turn, done: u64) -> Option<Lapse>
     }
 }
 
-/// Takes a turn, after so many, and tells whether who acts creates, gives or revokes.
-fn told_turn(kernel: &mut Kernel, cpu: u32, done: u64) -> Result<Option<Lapse>, AllocError>
-    requires cpu { cpu < kernel.old.state.cpus }
-    requires room { 0 < kernel.old.room }
-    requires turns { kernel.old.state.turns < 2 ^ 31 }
-    requires fits { done + 1 < 2 ^ 64 }
-    ensures told { IfOk result (IsTurnTold kernel.old.state cpu done) }
-    ensures state { OnOk result (kernel.new.state ≡ after kernel.old.state cpu) }
-    ensures room { kernel.old.room ≤ kernel.new.room + 1 }
-    ensures turns { OnOk result (kernel.new.state.turns ≤ kernel.old.state.turns + 1) }
-    ensures cpus { kernel.new.state.cpus ≡ kernel.old.state.cpus }
+/// The turn, after so many, of one that gives, beside one of a protection domain that is in a state.
+fn gift_by(doer: Doer, pd: u32, state: State, done: u64) -> Option<Lapse>
+    requires { done + 1 < 2 ^ 64 }
+    ensures { result ≡ gift_by done doer pd state }
 {
-    let doer = next_doer(kernel, cpu);
-    let turn = kernel.turn(cpu)?;
-    Ok(own_lapse(doer, turn, done))
+    match state {
+        State::Revoking(..) => Some(Lapse {
+            turn: done + 1,
+            ec: doer.ec,
+            pd: doer.pd,
+            amid: pd,
+            kind: LapseKind::Gives,
+        }),
+        _ => None,
+    }
 }
 
-fn has_lapsed(lapses: &[Lapse], pd: u32) -> bool
-    ensures { result ≡ list_any (λ (l : Lapse). l.pd == pd) lapses.now }
+fn gift_beside(kernel: &Kernel, doer: Doer, n: u32, done: u64) -> Option<Lapse>
+    requires { done + 1 < 2 ^ 64 }
+    ensures { result ≡ gift_beside kernel.now.state done doer n (context_at kernel.now.state n) }
 {
-    lapses.iter().any(|l| l.pd == pd)
+    let context = kernel.ec(n)?;
+    gift_by(doer, pd_of(kernel, n), context.state, done)
+}
+
+/// The same of an object, if it is an execution context.
+fn gift_at(kernel: &Kernel, doer: Doer, n: u32, object: Object, done: u64) -> Option<Lapse>
+    requires { done + 1 < 2 ^ 64 }
+    ensures { result ≡ gift_at kernel.now.state done doer (n, object) }
+{
+    match object {
+        Object::Ec { .. } => gift_beside(kernel, doer, n, done),
+        _ => None,
+    }
+}
+
+fn is_revoke(kind: LapseKind) -> bool
+    ensures { result ≡ is_revoke kind }
+{
+    matches!(kind, LapseKind::Revokes)
+}
+
+/// Whether an earlier lapse counts for each side for which `l` does.
+fn is_like(l: Lapse, earlier: Lapse) -> bool
+    ensures { result ≡ is_like l earlier }
+{
+    earlier.pd == l.pd && earlier.amid == l.amid && (!is_revoke(earlier.kind) || is_revoke(l.kind))
+}
+
+fn has_like(lapses: &[Lapse], lapse: Lapse) -> bool
+    ensures { result ≡ list_any (is_like lapse) lapses.now }
+{
+    lapses.iter().any(|&earlier| is_like(lapse, earlier))
 }
 
 fn add(lapses: &mut Vec<Lapse>, lapse: Lapse) -> Result<(), AllocError>
-    ensures { OnOk result ((S : ℕ → Bool) → first_lapse S lapses.new.items ≡ option_or (first_lapse S lapses.old.items) (of_side S (Some lapse))) }
+    ensures { OnOk result (Adds lapses.old.items lapses.new.items (λ revokes S. of_side revokes S (Some lapse))) }
 {
-    if has_lapsed(lapses, lapse.pd) {
+    if has_like(lapses, lapse) {
         return Ok(());
     }
     lapses.push(lapse)?;
     Ok(())
 }
 
-/// Adds a lapse to a list, unless one of its protection domain is there.
+/// Adds a lapse to a list, unless one that counts for the same sides is there.
+#[tactic(auto, using(crate::proofs::Lapsing::adds_none))]
 fn note(lapses: &mut Vec<Lapse>, lapse: Option<Lapse>) -> Result<(), AllocError>
-    ensures { OnOk result ((S : ℕ → Bool) → first_lapse S lapses.new.items ≡ option_or (first_lapse S lapses.old.items) (of_side S lapse)) }
+    ensures { OnOk result (Adds lapses.old.items lapses.new.items (λ revokes S. of_side revokes S lapse)) }
 {
     match lapse {
         Some(lapse) => add(lapses, lapse),
         None => Ok(()),
     }
+}
+
+/// Notes of one that gives that it does beside each that is amid a revoke.
+fn note_gifts(
+    kernel: &Kernel,
+    doer: Doer,
+    done: u64,
+    lapses: &mut Vec<Lapse>,
+) -> Result<(), AllocError>
+    requires { done + 1 < 2 ^ 64 }
+    ensures { OnOk result (Adds lapses.old.items lapses.new.items (λ revokes S. first_gift revokes S kernel.now.state done doer)) }
+{
+    for (i, object) in kernel.objects().iter().enumerate() {
+        note(lapses, gift_at(kernel, doer, i as u32, *object, done))?;
+    }
+    Ok(())
+}
+
+fn is_gift(kind: Option<LapseKind>) -> bool
+    ensures { result ≡ is_gift kind }
+{
+    matches!(kind, Some(LapseKind::Gives))
+}
+
+/// Notes this of who acts, if it gives.
+#[tactic(auto, using(crate::proofs::Adding::gives_now, crate::proofs::Adding::gives_not, crate::proofs::Adding::nobody_gives))]
+fn note_giving(
+    kernel: &Kernel,
+    doer: Option<Doer>,
+    done: u64,
+    lapses: &mut Vec<Lapse>,
+) -> Result<(), AllocError>
+    requires { done + 1 < 2 ^ 64 }
+    ensures { OnOk result (Adds lapses.old.items lapses.new.items (λ revokes S. gift_of revokes S kernel.now.state done doer)) }
+{
+    let Some(doer) = doer else {
+        return Ok(());
+    };
+    if is_gift(kind_in(doer.state)) {
+        note_gifts(kernel, doer, done, lapses)
+    } else {
+        Ok(())
+    }
+}
+
+/// Takes a turn, after so many, and notes whether who acts creates, gives or revokes.
+fn note_turn(
+    kernel: &mut Kernel,
+    cpu: u32,
+    done: u64,
+    lapses: &mut Vec<Lapse>,
+) -> Result<(), AllocError>
+    requires cpu { cpu < kernel.old.state.cpus }
+    requires room { 0 < kernel.old.room }
+    requires turns { kernel.old.state.turns < 2 ^ 31 }
+    requires fits { done + 1 < 2 ^ 64 }
+    ensures noted { OnOk result (Adds lapses.old.items lapses.new.items (λ revokes S. turn_lapse revokes S kernel.old.state cpu done)) }
+    ensures tables { OnOk result (HasTables kernel.old.state) }
+    ensures state { OnOk result (kernel.new.state ≡ after kernel.old.state cpu) }
+    ensures room { kernel.old.room ≤ kernel.new.room + 1 }
+    ensures turns { OnOk result (kernel.new.state.turns ≤ kernel.old.state.turns + 1) }
+    ensures cpus { kernel.new.state.cpus ≡ kernel.old.state.cpus }
+{
+    kernel.actor(cpu);
+    let doer = next_doer(kernel, cpu);
+    note_giving(kernel, doer, done, lapses)?;
+    let turn = kernel.turn(cpu)?;
+    note(lapses, own_lapse(doer, turn, done))
 }
 
 /// Takes a turn, after so many, and notes a lapse in it, where so many turns were taken at least.
@@ -218,8 +325,7 @@ fn step(
         kernel.turn(cpu)?;
         return Ok(());
     }
-    let lapse = told_turn(kernel, cpu, done)?;
-    note(lapses, lapse)
+    note_turn(kernel, cpu, done, lapses)
 }
 
 /// Takes the turns of a block, after so many, and notes the lapses in them.
@@ -266,7 +372,7 @@ fn work_blocks(
 }
 
 /// Takes the turns of `order` from the present state of `kernel` on, and tells in which of them, after `from` turns of it at least, execution contexts
-/// created, gave or revoked: of each protection domain the first. The order is of processors that are there, and there is room in the log for its turns. The only
+/// created, gave while one was amid a revoke, or revoked: the first of each protection domain, and of each two such. The order is of processors that are there, and there is room in the log for its turns. The only
 /// refusal is of memory; the kernel has then taken some of the turns.
 pub fn lapses_of(
     alloc: Global,
