@@ -1,5 +1,5 @@
 pub mod Idle
 pub mod Passing
-pub mod Begun
 pub mod Stepping
 pub mod Going
+pub mod Taken

@@ -1,8 +1,7 @@
 -- Turns that a block takes.
-use Rattle.std.proofs.Common.{◌≡◌, ℕ, ◌+◌, ◌≤◌, List, [], ◌∷◌, ◌++◌, length, refl, ap, sym, ◌∙◌, arith, subst}
+use Rattle.std.proofs.Common.{◌≡◌, ℕ, ◌+◌, ◌≤◌, List, [], ◌∷◌, length, refl, ap, sym, ◌∙◌, arith, subst}
 use Rattle.std.specs.Prelude.{replicate, is_some, true, Option, Some, None, option_map, IfSome}
-use Rattle.std.proofs.lemmas.List.{length-append, length-replicate}
-use Rattle.nova_kernel.specs.Views.{KernelView}
+use Rattle.std.proofs.lemmas.List.{length-replicate}
 use Rattle.law_leases.specs.Advances.{step_of}
 use Rattle.nova_model.specs.Choice.{Candidate, choice, in_front}
 use Rattle.nova_model.specs.Runs.{IsFreeOfIdle, after, run, trace}
@@ -12,11 +11,7 @@ use Rattle.nova_model.specs.declared.event.Event.{Event}
 use Rattle.nova_model.specs.declared.event.Turn.TheVariants.{Idle}
 use Rattle.law_forest.specs.Turns.{Idles, Takes}
 use Rattle.law_forest.proofs.Turning.{comes}
-use Rattle.law_turns.proofs.Processors.{run_cpus}
-use Rattle.nova_order.specs.Blocks.{turns, total}
 use Rattle.nova_finished.specs.Steps.{ArePlainSteps, repeated}
-use Rattle.nova_finished.specs.UnderWay.{IsReady, Passed, left}
-use Rattle.nova_finished.specs.declared.finished.Finished.{Finished}
 
 front_few : {T : Type 0} (o : Option T) (xs : List T) → length (in_front o xs) ≤ length xs + 1
 front_few None xs = omega arith
@@ -52,11 +47,6 @@ run_turns k (x ∷ xs) free =
     let first = after_turns k x free.0 in
     let rest = run_turns (after k x) xs free.1 in omega arith
 
--- without a chosen one there are no turns
-pub none_chosen : (o : Option Candidate) (cpu n : ℕ) (es : List Event) → ArePlainSteps o cpu n es → option_map (step_of cpu) o ≡ None → n ≡ 0
-none_chosen None cpu n es steps none = steps
-none_chosen (Some c) cpu n es steps none = absurd (cc)
-
 module _ (k : KernelState) (cpu n : ℕ) (steps : ArePlainSteps (choice k cpu) cpu n (trace k (replicate n cpu))) where
   -- the events of the turns
   pub events : trace k (replicate n cpu) ≡ repeated (option_map (step_of cpu) (choice k cpu)) n
@@ -76,33 +66,6 @@ module _ (k : KernelState) (cpu n : ℕ) (steps : ArePlainSteps (choice k cpu) c
   -- none of them is idle
   pub steps_taken : IsFreeOfIdle k (replicate n cpu)
   steps_taken = all_taken k (replicate n cpu) (long ∙ sym (length-replicate n cpu))
-
-  module _ (f g : Finished) (at : f.kernel.state ≡ k) (ready : IsReady f) (most : n ≤ left f) (v : KernelView) (state : v.state ≡ run k (replicate n cpu)) (room : f.kernel.room ≤ v.room + n) where
-    -- a run that went on by them
-    pub passed_on : g.opening ≡ f.opening → g.kernel ≡ v → g.limit ≡ f.limit → turns g.order.blocks ≡ turns f.order.blocks ++ replicate n cpu
-        → total g.order.blocks ≡ total f.order.blocks + n → g.trace.items ≡ f.trace.items ++ repeated (option_map (step_of cpu) (choice k cpu)) n → Passed f (replicate n cpu) g
-    passed_on opening kernel limit order sum added =
-        let same : g.kernel.state ≡ run k (replicate n cpu) = ap (λ (w : KernelView). w.state) kernel ∙ state in
-        let began : g.kernel.state ≡ run f.kernel.state (replicate n cpu) = same ∙ ap (λ (s : KernelState). run s (replicate n cpu)) (sym at) in
-        let many : length g.trace.items ≡ length f.trace.items + n = ap length added ∙ length-append f.trace.items _ ∙ ap (λ (m : ℕ). length f.trace.items + m) (ap length (sym events) ∙ long) in
-        let counted : g.kernel.state.turns ≡ f.kernel.state.turns + n =
-        ap (λ (s : KernelState). s.turns) same ∙ run_turns k (replicate n cpu) steps_taken ∙ omega (arith, length-replicate n cpu, ap (λ (s : KernelState). s.turns) at) in
-        let place : g.kernel.room ≡ v.room = ap (λ (w : KernelView). w.room) kernel in
-        let within = ready.within in let log = ready.room in let few = ready.turns in let placed = ready.order in record {
-          opening = opening;
-          kernel = began;
-          order = order;
-          trace = added ∙ ap (λ (es : List Event). f.trace.items ++ es) (sym events ∙ ap (λ (s : KernelState). trace s (replicate n cpu)) (sym at));
-          count = many ∙ ap (λ (m : ℕ). length f.trace.items + m) (sym (length-replicate n cpu));
-          limit = limit;
-          cpus = ap (λ (s : KernelState). s.cpus) began ∙ run_cpus f.kernel.state (replicate n cpu);
-          ready = record {
-            within = omega arith;
-            room = omega arith;
-            turns = omega arith;
-            order = sum ∙ omega arith;
-          };
-        }
 
 -- no turns are plain steps
 pub no_steps : (o : Option Candidate) (cpu : ℕ) → ArePlainSteps o cpu 0 []

@@ -1,5 +1,5 @@
 -- What a finished run is, and where an order is idle first.
-use Rattle.std.specs.Prelude.{◌≡◌, ℕ, ◌+◌, Bool, true, false, List, [], ◌∷◌, ◌++◌, length}
+use Rattle.std.specs.Prelude.{◌≡◌, ℕ, ◌+◌, List, [], ◌∷◌, ◌++◌, length}
 use Rattle.nova_model.specs.State.{KernelState}
 use Rattle.nova_model.specs.Runs.{IsFreeOfIdle, run, trace}
 use Rattle.nova_order.specs.Blocks.{turns}
@@ -13,11 +13,6 @@ pub record IsFinished (k : KernelState) (list : List ℕ) (most : ℕ) (f : Fini
   pub order : turns f.order.blocks ≡ list
   pub trace : f.trace.items ≡ trace k list
   pub limit : f.limit ≡ most
-
--- turns of an order were taken: all, with none idle, and what comes of them; or those before an idle one
-abbrev pub IsBlockTaken : KernelState → List ℕ → Type 0 → Bool → Type 0
-IsBlockTaken k list Comes true = Comes × IsFreeOfIdle k list
-IsBlockTaken k list Comes false = IsFreeOfIdle k list → ⊥
 
 -- the first idle turn of an order is one of the block of this line, counted from 1
 pub record IsIdleLine (k : KernelState) (blocks : List Block) (line : ℕ) : Type 0 where

@@ -2,5 +2,4 @@ pub use Rattle.nova_kernel.specs.Views
 pub mod Fault
 pub mod Finished
 pub mod UnderWay
-pub mod Runs
 pub mod Steps

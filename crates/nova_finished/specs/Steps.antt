@@ -1,8 +1,10 @@
--- Turns that are plain steps.
-use Rattle.std.specs.Prelude.{◌≡◌, ℕ, List, [], replicate, Option, Some, None}
+-- Turns that are plain steps, and a turn that may have come after them.
+use Rattle.std.specs.Prelude.{◌≡◌, ℕ, List, [], ◌∷◌, replicate, Option, Some, None, Result, Ok, Err}
 use Rattle.law_leases.specs.Advances.{step_of}
 use Rattle.nova_model.specs.Choice.{Candidate}
 use Rattle.nova_model.specs.declared.event.Event.{Event}
+use Rattle.nova_model.specs.declared.event.Turn.{Turn}
+use Rattle.nova_model.specs.declared.event.Turn.TheVariants.{Stepped, Idle}
 
 -- an event `count` times; none where there is no event
 abbrev pub repeated : Option Event → ℕ → List Event
@@ -14,3 +16,10 @@ repeated None count = []
 abbrev pub ArePlainSteps : Option Candidate → ℕ → ℕ → List Event → Type 0
 ArePlainSteps (Some c) cpu count events = events ≡ replicate count (step_of cpu c)
 ArePlainSteps None cpu count events = count ≡ 0
+
+-- the event of the turn that came after plain steps: none where it was not tried, where it was refused, and where the processor was idle
+abbrev pub last_events : {E : Type 0} → Option (Result Turn E) → List Event
+last_events None = []
+last_events (Some (Err refused)) = []
+last_events (Some (Ok Idle)) = []
+last_events (Some (Ok (Stepped event))) = event ∷ []

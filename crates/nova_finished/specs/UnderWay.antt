@@ -1,9 +1,8 @@
 -- Runs on their way, and what turns add to them.
-use Rattle.std.specs.Prelude.{◌≡◌, ℕ, ◌+◌, ◌-◌, ◌^◌, ◌<◌, ◌≤◌, IsSome, List, [], ◌∷◌, ◌++◌, length, is_some, if◌then◌else◌}
-use Rattle.nova_kernel.specs.Views.{IsMaking}
+use Rattle.std.specs.Prelude.{◌≡◌, ℕ, ◌+◌, ◌-◌, ◌^◌, ◌≤◌, List, [], ◌∷◌, ◌++◌, length, replicate, is_some, if◌then◌else◌}
 use Rattle.nova_model.specs.State.{KernelState}
 use Rattle.nova_model.specs.Turn.{turn}
-use Rattle.nova_model.specs.Runs.{run, trace}
+use Rattle.nova_model.specs.Runs.{IsFreeOfIdle, run, trace}
 use Rattle.nova_order.specs.Blocks.{turns, total}
 use Rattle.nova_finished.specs.declared.finished.Finished.{Finished}
 
@@ -14,11 +13,6 @@ left f = f.limit - length f.trace.items
 -- the turn of a processor that is not idle
 abbrev pub taken : KernelState → ℕ → List ℕ
 taken k cpu = if is_some (turn k cpu) then cpu ∷ [] else []
-
--- where no turn was taken though there may be as many as are left, the processor is idle, or memory was refused to a turn that makes an object or a
--- derivation
-abbrev pub HasNone : KernelState → ℕ → ℕ → Type 0
-HasNone k left cpu = 0 < left → IsSome (turn k cpu) → IsMaking k cpu
 
 -- there is room in the console log for as many turns as there may be, and a place in the order for each event
 pub record IsReady (f : Finished) : Type 0 where
@@ -42,3 +36,9 @@ pub record Passed (old : Finished) (list : List ℕ) (new : Finished) : Type 0 w
   pub limit : new.limit ≡ old.limit
   pub cpus : new.kernel.state.cpus ≡ old.kernel.state.cpus
   pub ready : IsReady new
+
+-- after `n` turns of one processor, at most `may`, of which none is idle
+pub record IsGone (old : Finished) (cpu may n : ℕ) (new : Finished) : Type 0 where
+  pub few : n ≤ may
+  pub passed : Passed old (replicate n cpu) new
+  pub no_idle : IsFreeOfIdle old.kernel.state (replicate n cpu)

@@ -1,19 +1,19 @@
-ghost use Rattle.std.specs.Prelude.{◌≡◌, ◌+◌, ◌^◌, ◌<◌, ◌≤◌, ◌++◌, [], length, replicate, is_some, None, IfOk, IfErr, OnOk, OnErr};
+ghost use Rattle.std.specs.Prelude.{◌≡◌, ◌+◌, ◌^◌, ◌<◌, ◌≤◌, ◌++◌, [], length, replicate, is_some, false, IsOk, IfOk, IfErr, OnOk, OnErr};
+ghost use Rattle.nova_kernel.specs.Rides.{last_turns};
 ghost use Rattle.nova_kernel.specs.Views.{IsMaking};
-ghost use Rattle.nova_model.specs.Runs.{IsFreeOfIdle};
 ghost use Rattle.nova_model.specs.Turn.{turn};
 ghost use Rattle.nova_order.specs.Blocks.{turns, total};
-ghost use Rattle.nova_finished.specs.Runs.{IsSharedRun};
-ghost use Rattle.nova_finished.specs.Steps.{repeated};
-ghost use Rattle.nova_finished.specs.UnderWay.{HasNone, IsReady, HasRoom, Passed, left, taken};
+ghost use Rattle.nova_finished.specs.Finished.{IsFinished};
+ghost use Rattle.nova_finished.specs.Steps.{last_events, repeated};
+ghost use Rattle.nova_finished.specs.UnderWay.{HasRoom, IsGone, IsReady, Passed, left, taken};
 
 use crate::block::Block;
-use nova_kernel::{Event, EventKind, Kernel, StepsTaken, Turn};
+use nova_kernel::{Event, Kernel, StepsTaken, Turn, TurnsTaken, let_go};
 use nova_order::Order;
 use nova_trace::Trace;
 use std::alloc::{AllocError, Global};
 
-/// A run of a kernel.
+/// A run of a kernel under way: its opening, and what came of the turns that were taken.
 #[derive(Drop)]
 pub struct Finished {
     /// The kernel as it was at the beginning.
@@ -32,29 +32,88 @@ pub struct Finished {
     pub limit: u64,
 }
 
-/// Drops a value out of line, part by part.
-fn destroy<T: Drop>(_value: T) {}
+/// Enters `steps`, plain steps that were taken at once. There are places for their events.
+#[inline(always)]
+fn enter_steps(trace: &mut Trace, steps: StepsTaken)
+    requires places { length trace.old.items + steps.count ≤ trace.old.capacity }
+    ensures items { trace.new.items ≡ trace.old.items ++ repeated steps.event steps.count }
+    ensures places { trace.new.capacity ≡ trace.old.capacity }
+{
+    if let Some(event) = steps.event
+        && steps.count > 0
+    {
+        trace.add(event, steps.count);
+    }
+}
+
+/// An event, by its fields: what lies between them is not copied.
+#[inline(always)]
+fn by_fields(event: Event) -> Event
+    ensures { result ≡ event }
+{
+    Event {
+        cpu: event.cpu,
+        sc: event.sc,
+        ec: event.ec,
+        kind: event.kind,
+        a: event.a,
+        b: event.b,
+    }
+}
+
+/// Enters `last`, the turn that came after them, if one was tried, and returns how many turns it is. There is a place for its event.
+#[inline(always)]
+fn enter_last(trace: &mut Trace, last: Option<Result<Turn, AllocError>>) -> u64
+    requires places { length trace.old.items + last_turns last ≤ trace.old.capacity }
+    ensures turns { result ≡ last_turns last }
+    ensures items { trace.new.items ≡ trace.old.items ++ last_events last }
+    ensures places { trace.new.capacity ≡ trace.old.capacity }
+{
+    match last {
+        Some(Ok(Turn::Stepped(event))) => {
+            trace.add(by_fields(event), 1);
+            1
+        }
+        Some(Ok(Turn::Idle)) | Some(Err(_)) | None => 0,
+    }
+}
 
 impl Finished {
-    /// Drops the run, as `nova_kernel::let_go` drops a kernel.
+    /// Drops the run, its kernels by `nova_kernel::let_go`.
     pub fn let_go(self) {
-        destroy(self);
+        let Finished {
+            opening,
+            kernel,
+            order: _order,
+            trace: _trace,
+            limit: _,
+        } = self;
+        let_go(opening);
+        let_go(kernel);
     }
 
-    /// A run of at most `limit` turns that has taken none, with room for them. Where memory runs out, it gives the kernel back.
-    pub fn begin(alloc: Global, kernel: Kernel, limit: u64) -> Result<Finished, Kernel>
+    /// A run of at most `limit` turns that has taken none, with room for `blocks` blocks of its order and for `events` events. Where memory runs out,
+    /// it gives the kernel back.
+    pub fn begin(
+        alloc: Global,
+        kernel: Kernel,
+        limit: u64,
+        blocks: u64,
+        events: u64,
+    ) -> Result<Finished, Kernel>
         requires room { limit ≤ kernel.room }
         requires turns { kernel.state.turns + limit ≤ 2 ^ 31 }
-        ensures opening { IfOk result (λ run. (run.opening.state ≡ kernel.state) × (run.limit ≡ limit)) }
-        ensures kernel { IfOk result (λ run. (run.kernel ≡ kernel) × (turns run.order.blocks ≡ [])) }
-        ensures run { IfOk result IsSharedRun }
+        ensures finished { IfOk result (IsFinished kernel.state [] limit) }
+        ensures kernel { IfOk result (λ run. run.kernel ≡ kernel) }
+        ensures ready { IfOk result (λ run. IsReady run) }
+        ensures room { IfOk result (λ run. (blocks ≤ run.order.spare) × (events ≤ run.trace.capacity)) }
         ensures err { IfErr result (λ given. given ≡ kernel) }
     {
         let mut order = Order::new(alloc);
-        let Ok(()) = order.reserve(limit as usize) else {
+        let Ok(()) = order.reserve(blocks as usize) else {
             return Err(kernel);
         };
-        let Ok(trace) = Trace::with_capacity(alloc, limit as usize) else {
+        let Ok(trace) = Trace::with_capacity(alloc, events as usize) else {
             return Err(kernel);
         };
         let Ok(opening) = kernel.copy() else {
@@ -69,132 +128,103 @@ impl Finished {
         })
     }
 
-    /// One turn of a processor in the room that was made for it, and whether it was taken: it is not where the processor is idle.
-    /// Memory can run out only in a turn that makes an object or a derivation.
+    /// One turn of the processor `cpu`, and whether it was taken: it is not where the processor is idle. There is a place for its event. Where the
+    /// order has room for as many turns as there may be, memory can run out only in a turn that makes an object or a derivation, and then the run is
+    /// as before.
+    #[inline(always)]
     pub fn turn(&mut self, cpu: u32) -> Result<bool, AllocError>
         requires ready { IsReady self.old }
-        requires room { HasRoom self.old }
         requires more { length self.old.trace.items < self.old.limit }
+        requires place { length self.old.trace.items < self.old.trace.capacity }
         requires cpu { cpu < self.old.kernel.state.cpus }
         ensures took { IfOk result (λ took. took ≡ is_some (turn self.old.kernel.state cpu)) }
         ensures passed { OnOk result (Passed self.old (taken self.old.kernel.state cpu) self.new) }
-        ensures room { OnOk result (HasRoom self.new) }
-        ensures memory { OnErr result (self.new ≡ self.old) }
-        ensures making { OnErr result (IsMaking self.old.kernel.state cpu) }
+        ensures places { self.new.trace.capacity ≡ self.old.trace.capacity }
+        ensures room { HasRoom self.old → OnOk result (HasRoom self.new) }
+        ensures memory { HasRoom self.old → OnErr result (self.new ≡ self.old) }
+        ensures making { HasRoom self.old → OnErr result (IsMaking self.old.kernel.state cpu) }
     {
         match self.kernel.turn(cpu)? {
             Turn::Stepped(event) => {
                 self.trace.add(event, 1);
-                self.order.push(cpu, 1);
+                self.order.extend(cpu, 1)?;
                 Ok(true)
             }
             Turn::Idle => Ok(false),
         }
     }
 
-    /// Enters so many turns of a processor, each with this event, in the room that was made for them. Without an event there are none.
-    fn enter(&mut self, cpu: u32, event: Option<Event>, count: u64)
-        requires room { HasRoom self.old }
-        requires more { length self.old.trace.items + count ≤ self.old.limit }
+    /// Enters `taken`, the turns of the processor `cpu` that its kernel took in one call, and returns how many they are. There are places for their
+    /// events. Memory can run out only where the order has no room for a block.
+    #[inline(always)]
+    fn enter(&mut self, cpu: u32, taken: &TurnsTaken) -> Result<u64, AllocError>
+        requires places { length self.old.trace.items + (taken.now.steps.count + last_turns taken.now.last) ≤ self.old.trace.capacity }
         requires order { total self.old.order.blocks ≡ length self.old.trace.items }
-        requires none { event ≡ None → count ≡ 0 }
+        requires more { length self.old.trace.items + (taken.now.steps.count + last_turns taken.now.last) ≤ self.old.limit }
+        ensures turns { IfOk result (λ n. n ≡ taken.now.steps.count + last_turns taken.now.last) }
         ensures same { (self.new.opening ≡ self.old.opening) × (self.new.kernel ≡ self.old.kernel) × (self.new.limit ≡ self.old.limit) }
-        ensures order { turns self.new.order.blocks ≡ turns self.old.order.blocks ++ replicate count cpu }
-        ensures sum { total self.new.order.blocks ≡ total self.old.order.blocks + count }
-        ensures trace { self.new.trace.items ≡ self.old.trace.items ++ repeated event count }
-        ensures room { HasRoom self.new }
+        ensures order { IfOk result (λ n. turns self.new.order.blocks ≡ turns self.old.order.blocks ++ replicate n cpu) }
+        ensures sum { IfOk result (λ n. total self.new.order.blocks ≡ total self.old.order.blocks + n) }
+        ensures trace { OnOk result (self.new.trace.items ≡ (self.old.trace.items ++ repeated taken.now.steps.event taken.now.steps.count) ++ last_events taken.now.last) }
+        ensures places { self.new.trace.capacity ≡ self.old.trace.capacity }
+        ensures spare { IfOk result (λ n. self.old.order.spare ≤ self.new.order.spare + n) }
+        ensures room { taken.now.steps.count + last_turns taken.now.last ≤ self.old.order.spare → IsOk result }
     {
-        let Some(event) = event else {
-            return;
-        };
-        if count == 0 {
-            return;
+        let _limit = self.limit;
+        enter_steps(&mut self.trace, taken.steps);
+        let count = taken.steps.count + enter_last(&mut self.trace, taken.last);
+        if count > 0 {
+            self.order.extend(cpu, count)?;
         }
-        self.trace.add(event, count);
-        self.order.push(cpu, count);
+        Ok(count)
     }
 
-    /// So many turns of a processor as a block takes, in the room that was made for them.
+    /// Takes at most `most` turns of the processor `cpu` in one call of its kernel, and returns how many. Where there may be one, none is taken only
+    /// where the processor is idle. There are places for their events. Where memory is refused and the order has room for as many turns as there may
+    /// be, it returns how many were taken before, which are entered; and that comes only in a turn that makes an object or a derivation.
+    #[inline(always)]
+    pub fn go(&mut self, cpu: u32, most: u64) -> Result<u64, u64>
+        requires ready { IsReady self.old }
+        requires more { length self.old.trace.items + most ≤ self.old.limit }
+        requires places { length self.old.trace.items + most ≤ self.old.trace.capacity }
+        requires cpu { cpu < self.old.kernel.state.cpus }
+        ensures gone { IfOk result (λ n. IsGone self.old cpu most n self.new) }
+        ensures idle { IfOk result (λ n. n ≡ 0 → 0 < most → is_some (turn self.old.kernel.state cpu) ≡ false) }
+        ensures places { self.new.trace.capacity ≡ self.old.trace.capacity }
+        ensures room { HasRoom self.old → HasRoom self.new }
+        ensures memory { HasRoom self.old → IfErr result (λ n. IsGone self.old cpu most n self.new) }
+        ensures making { HasRoom self.old → OnErr result (IsMaking self.new.kernel.state cpu) }
+    {
+        if most == 0 {
+            return Ok(0);
+        }
+        let taken = self.kernel.take_turns(cpu, most);
+        let Ok(count) = self.enter(cpu, &taken) else {
+            return Err(0);
+        };
+        match taken.last {
+            Some(Err(_)) => Err(count),
+            _ => Ok(count),
+        }
+    }
+
+    /// Does `call`, a block of turns of the processor `cpu`, in the room that was made for them, and returns how many they are.
     pub fn block<B: Block>(&mut self, cpu: u32, call: &mut B) -> u64
         requires ready { IsReady self.old }
         requires room { HasRoom self.old }
         requires cpu { cpu < self.old.kernel.state.cpus }
         requires fits { B.fits call.old cpu self.old.kernel.state }
         ensures tells { B.tells call.old cpu self.old.kernel.state (left self.old) call.new result }
-        ensures most { result ≤ left self.old }
-        ensures passed { Passed self.old (replicate result cpu) self.new }
+        ensures gone { IsGone self.old cpu (left self.old) result self.new }
         ensures room { HasRoom self.new }
-        ensures no_idle { IsFreeOfIdle self.old.kernel.state (replicate result cpu) }
     {
         let event = self.kernel.plain_step(cpu);
         let left = self.limit - self.trace.len();
-        let taken = call.act(&mut self.kernel, cpu, left);
-        self.enter(cpu, event, taken);
-        taken
-    }
-
-    /// Plain steps of a processor, one after another: how many, at most so many. None is taken where who acts there is about to do something else.
-    fn steps(&mut self, cpu: u32, most: u64) -> u64
-        requires ready { IsReady self.old }
-        requires room { HasRoom self.old }
-        requires more { length self.old.trace.items + most ≤ self.old.limit }
-        requires cpu { cpu < self.old.kernel.state.cpus }
-        ensures most { result ≤ most }
-        ensures passed { Passed self.old (replicate result cpu) self.new }
-        ensures room { HasRoom self.new }
-        ensures no_idle { IsFreeOfIdle self.old.kernel.state (replicate result cpu) }
-    {
-        let StepsTaken { event, count } = self.kernel.steps(cpu, most);
-        self.enter(cpu, event, count);
+        let count = call.act(&mut self.kernel, cpu, left);
+        let steps = StepsTaken { event, count };
+        let Ok(_) = self.enter(cpu, &TurnsTaken { steps, last: None }) else {
+            unreachable!()
+        };
         count
-    }
-
-    /// The same on and on, until none is taken: a quantum may end on the way.
-    fn ride_on(&mut self, cpu: u32, most: u64) -> u64
-        requires ready { IsReady self.old }
-        requires room { HasRoom self.old }
-        requires more { length self.old.trace.items + most ≤ self.old.limit }
-        requires cpu { cpu < self.old.kernel.state.cpus }
-        ensures most { result ≤ most }
-        ensures passed { Passed self.old (replicate result cpu) self.new }
-        ensures room { HasRoom self.new }
-        ensures no_idle { IsFreeOfIdle self.old.kernel.state (replicate result cpu) }
-    {
-        let mut left = most;
-        while left > 0 {
-            let taken = self.steps(cpu, left);
-            if taken == 0 {
-                return most - left;
-            }
-            left -= taken;
-        }
-        most
-    }
-
-    /// A turn of a processor, and after a plain step those that come next: how many turns, at most so many. Where there may be one, none is taken only
-    /// where the processor is idle or memory is refused.
-    pub fn go(&mut self, cpu: u32, most: u64) -> u64
-        requires ready { IsReady self.old }
-        requires room { HasRoom self.old }
-        requires more { length self.old.trace.items + most ≤ self.old.limit }
-        requires cpu { cpu < self.old.kernel.state.cpus }
-        ensures most { result ≤ most }
-        ensures passed { Passed self.old (replicate result cpu) self.new }
-        ensures room { HasRoom self.new }
-        ensures no_idle { IsFreeOfIdle self.old.kernel.state (replicate result cpu) }
-        ensures none { result ≡ 0 → HasNone self.old.kernel.state most cpu }
-    {
-        if most == 0 {
-            return 0;
-        }
-        match self.turn(cpu) {
-            Ok(true) => {}
-            Ok(false) | Err(_) => return 0,
-        }
-        match self.trace.entries().last() {
-            Some(last) if matches!(last.event.kind, EventKind::Step) => self.ride_on(cpu, most - 1)
-                + 1,
-            _ => 1,
-        }
     }
 }

@@ -12,11 +12,11 @@ use Rattle.nova_order.specs.Blocks.{total, turns}
 use Rattle.nova_order.specs.declared.block.Block.{Block}
 use Rattle.nova_order.proofs.BlockLemmas.{length_turns, turns_push}
 use Rattle.nova_order.proofs.PlaceLemmas.{fits_at, more_at, there_at}
-use Rattle.nova_finished.specs.Finished.{IsBlockTaken, IsIdleLine}
+use Rattle.nova_finished.specs.Finished.{IsIdleLine}
 use Rattle.nova_finished.specs.UnderWay.{taken}
 use Rattle.nova_finished.proofs.Idle.{line_idle}
 use Rattle.nova_following.specs.Follows.{Followed, followed, met, noted}
-use Rattle.nova_following.specs.Passes.{HasFollowed}
+use Rattle.nova_following.specs.Passes.{HasFollowed, IsBlockTaken}
 
 -- TURNS AFTER OTHERS
 followed_append : (g : ℕ) (k : KernelState) (xs ys : List ℕ) (f : Followed) → followed g k (xs ++ ys) f ≡ followed g (run k xs) ys (followed g k xs f)

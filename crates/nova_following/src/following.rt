@@ -3,10 +3,10 @@ ghost use Rattle.std.specs.List.{list_all};
 ghost use Rattle.nova_model.specs.Runs.{IsFreeOfIdle};
 ghost use Rattle.nova_model.specs.Turn.{turn};
 ghost use Rattle.nova_order.specs.Blocks.{total, turns};
-ghost use Rattle.nova_finished.specs.Finished.{IsBlockTaken, IsIdleLine};
+ghost use Rattle.nova_finished.specs.Finished.{IsIdleLine};
 ghost use Rattle.nova_finished.specs.UnderWay.{taken};
 ghost use Rattle.nova_finished.specs.declared.fault.RunFault.TheVariants.{OrderIdle};
-ghost use Rattle.nova_following.specs.Passes.{HasFollowed};
+ghost use Rattle.nova_following.specs.Passes.{HasFollowed, IsBlockTaken};
 
 use crate::trail::{Trail, input_of};
 use nova_finished::RunFault;

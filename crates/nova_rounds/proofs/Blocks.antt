@@ -1,30 +1,33 @@
 -- Runs along an order, block by block.
 use Rattle.std.proofs.Common.{◌≡◌, ℕ, ◌+◌, ◌≤◌, ◌<◌, List, [], ◌∷◌, ◌++◌, length, take, replicate, ap, sym, ◌∙◌, subst, arith, slice_index_or, refl}
-use Rattle.std.specs.Prelude.{Bool, true, false, IsTrue}
+use Rattle.std.specs.Prelude.{false, is_some, IsTrue}
 use Rattle.nova_model.specs.State.{KernelState}
+use Rattle.nova_model.specs.Turn.{turn}
 use Rattle.law_turns.proofs.Processors.{run_cpus}
-use Rattle.nova_order.specs.Blocks.{turns, is_within}
+use Rattle.nova_order.specs.Blocks.{turns, total, is_within}
 use Rattle.nova_order.specs.declared.block.Block.{Block}
 use Rattle.nova_order.proofs.BlockLemmas.{turns_push, length_turns}
 use Rattle.nova_order.proofs.BoundLemmas.{cpus_within, total_within}
 use Rattle.nova_order.proofs.PlaceLemmas.{fits_at, more_at, there_at}
 use Rattle.law_turns.proofs.Passes.{free_append}
-use Rattle.nova_rounds.specs.Finished.{IsBlockTaken, IsFinished, IsIdleLine, IsFreeOfIdle}
-use Rattle.nova_rounds.specs.UnderWay.{IsReady, Passed, IsAlong, IsBegun}
+use Rattle.nova_model.specs.Runs.{IsFreeOfIdle}
+use Rattle.nova_finished.specs.Finished.{IsFinished, IsIdleLine}
+use Rattle.nova_finished.specs.UnderWay.{IsGone, IsReady}
+use Rattle.nova_rounds.specs.UnderWay.{IsAlong, IsBegun}
 use Rattle.nova_finished.specs.declared.finished.Finished.{Finished}
-use Rattle.nova_finished.proofs.Idle.{line_idle}
+use Rattle.nova_finished.proofs.Idle.{line_idle, turn_idle}
 use Rattle.nova_finished.proofs.Passing.{Finished-on}
 
 -- the turns of a block more
-block_on : (k : KernelState) (most : ℕ) (b c : Finished) (blocks : List Block) (block : Block) → IsAlong k most b blocks →
-    IsBlockTaken b.kernel.state (replicate block.count block.cpu) (Passed b (replicate block.count block.cpu) c) true → IsAlong k most c (blocks ++ block ∷ [])
-block_on k most b c blocks block along turned =
+block_on : (k : KernelState) (most may : ℕ) (b c : Finished) (blocks : List Block) (block : Block) → IsAlong k most b blocks → IsGone b block.cpu may block.count c →
+    IsAlong k most c (blocks ++ block ∷ [])
+block_on k most may b c blocks block along gone =
     let list = replicate block.count block.cpu in
     let whole = turns_push blocks block in
     record {
-      finished = subst (λ (l : List ℕ). IsFinished k l most c) (sym whole) (Finished-on k (turns blocks) list most b c along.finished turned.0);
-      ready = turned.0.ready;
-      free = subst (IsFreeOfIdle k) (sym whole) (free_append k (turns blocks) list along.free (subst (λ (s : KernelState). IsFreeOfIdle s list) along.finished.kernel turned.1));
+      finished = subst (λ (l : List ℕ). IsFinished k l most c) (sym whole) (Finished-on k (turns blocks) list most b c along.finished gone.passed);
+      ready = gone.passed.ready;
+      free = subst (IsFreeOfIdle k) (sym whole) (free_append k (turns blocks) list along.free (subst (λ (s : KernelState). IsFreeOfIdle s list) along.finished.kernel gone.no_idle));
     }
 
 -- an order that begins
@@ -57,23 +60,26 @@ module _ (blocks : List Block) (i : ℕ) (d : Block) (less : i < length blocks) 
       let there = there_at blocks i d less k.cpus (cpus_within k.cpus most blocks within) in
       omega arith
 
-  pub next_fits : IsTrue (is_within k.cpus most blocks) → length f.trace.items + block_at.count ≤ f.limit
-  next_fits within =
+  pub next_fits : (c : ℕ) → total blocks ≤ c → length f.trace.items + block_at.count ≤ c
+  next_fits c few =
       let so_far = along.ready.order in
       let taken_ = length_turns f.order.blocks in
       let wanted = length_turns (take i blocks) in
       let same = ap length along.finished.order in
-      let most_ = along.finished.limit in
       let fits = fits_at blocks i d less in
-      let few = total_within k.cpus most blocks within in
       omega arith
 
-  pub next_on : (all : Bool) → all ≡ true → IsBlockTaken f.kernel.state (replicate block_at.count block_at.cpu) (Passed f (replicate block_at.count block_at.cpu) g) all → IsAlong k most g (take (i + 1) blocks)
-  next_on all is turned =
-      subst (IsAlong k most g) (sym (more_at blocks i d less))
-      (block_on k most f g (take i blocks) block_at along (subst (λ (t : Bool). IsBlockTaken f.kernel.state (replicate block_at.count block_at.cpu) (Passed f (replicate block_at.count block_at.cpu) g) t) is turned))
+  pub next_within : IsTrue (is_within k.cpus most blocks) → length f.trace.items + block_at.count ≤ f.limit
+  next_within within = let most_ = along.finished.limit in let fits = next_fits most (total_within k.cpus most blocks within) in omega arith
 
-  pub next_idle : (line : ℕ) (all : Bool) → all ≡ false → IsBlockTaken f.kernel.state (replicate block_at.count block_at.cpu) (Passed f (replicate block_at.count block_at.cpu) g) all → line ≡ i + 1 → IsIdleLine k blocks line
-  next_idle line all is turned number =
-      line_idle blocks i d less k f.kernel.state line along.finished.kernel along.free
-      (subst (λ (t : Bool). IsBlockTaken f.kernel.state (replicate block_at.count block_at.cpu) (Passed f (replicate block_at.count block_at.cpu) g) t) is turned) number
+  module _ (n : ℕ) (gone : IsGone f block_at.cpu block_at.count n g) where
+    pub next_on : block_at.count ≤ n → IsAlong k most g (take (i + 1) blocks)
+    next_on all =
+        let same : n ≡ block_at.count = let few = gone.few in omega arith in
+        subst (IsAlong k most g) (sym (more_at blocks i d less))
+        (block_on k most block_at.count f g (take i blocks) block_at along (subst (λ (m : ℕ). IsGone f block_at.cpu block_at.count m g) same gone))
+
+    pub next_idle : (line : ℕ) → n < block_at.count → is_some (turn g.kernel.state block_at.cpu) ≡ false → line ≡ i + 1 → IsIdleLine k blocks line
+    next_idle line fewer idle number =
+        line_idle blocks i d less k f.kernel.state line along.finished.kernel along.free
+        (turn_idle f.kernel.state g.kernel.state block_at.cpu n block_at.count fewer gone.passed.kernel idle) number

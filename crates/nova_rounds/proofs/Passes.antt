@@ -8,8 +8,9 @@ use Rattle.nova_model.specs.Turn.{turn}
 use Rattle.nova_model.specs.Runs.{after, run, pass, passes, rounds}
 use Rattle.law_turns.proofs.Passes.{passes_none, nothing}
 use Rattle.nova_order.specs.Blocks.{BlockList, turns, total}
-use Rattle.nova_rounds.specs.Finished.{IsFinished}
-use Rattle.nova_rounds.specs.UnderWay.{IsReady, Passed, IsUnderWay, left, taken}
+use Rattle.nova_finished.specs.Finished.{IsFinished}
+use Rattle.nova_finished.specs.UnderWay.{IsReady, Passed, left, taken}
+use Rattle.nova_rounds.specs.UnderWay.{IsUnderWay}
 use Rattle.nova_finished.specs.declared.finished.Finished.{Finished}
 use Rattle.nova_finished.proofs.Passing.{Passed-through, Finished-on}
 

@@ -1,3 +1,1 @@
-pub mod Finished
-pub mod Taken
 pub mod UnderWay

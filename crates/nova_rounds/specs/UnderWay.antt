@@ -1,11 +1,12 @@
--- Runs on their way, and what turns add to them.
+-- Parts of a run: of a round robin, and along an order.
 use Rattle.std.specs.Prelude.{◌≡◌, ℕ, List, [], ◌++◌}
+use Rattle.nova_model.specs.Runs.{IsFreeOfIdle}
 use Rattle.nova_model.specs.State.{KernelState}
 use Rattle.nova_order.specs.Blocks.{turns}
 use Rattle.nova_order.specs.declared.block.Block.{Block}
-use Rattle.nova_rounds.specs.Finished.{IsFinished, IsFreeOfIdle}
+use Rattle.nova_finished.specs.Finished.{IsFinished}
+use Rattle.nova_finished.specs.UnderWay.{IsReady, Passed}
 use Rattle.nova_finished.specs.declared.finished.Finished.{Finished}
-pub use Rattle.nova_finished.specs.UnderWay.{left, taken, IsReady, Passed}
 
 -- turns of a part of a run: those that were taken, which with those that are left make all, in the places that there were for events
 pub record IsUnderWay (old new : Finished) (rest all : List ℕ) : Type 0 where

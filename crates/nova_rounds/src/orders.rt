@@ -1,43 +1,26 @@
-ghost use Rattle.std.specs.Prelude.{ℕ, ◌≡◌, ◌+◌, ◌^◌, ◌<◌, ◌≤◌, length, replicate, IfOk, OnOk, IsTrue, Err};
-ghost use Rattle.nova_order.specs.Blocks.{turns, is_within};
+ghost use Rattle.std.specs.Prelude.{ℕ, ◌≡◌, ◌+◌, ◌^◌, ◌≤◌, IfOk, OnOk, IsTrue, Err};
+ghost use Rattle.nova_model.specs.Runs.{IsFreeOfIdle};
+ghost use Rattle.nova_order.specs.Blocks.{turns, total, is_within};
+ghost use Rattle.nova_finished.specs.Finished.{IsFinished, IsIdleLine};
 ghost use Rattle.nova_finished.specs.declared.fault.RunFault.TheVariants.{OrderIdle};
-ghost use Rattle.nova_rounds.specs.Finished.{IsBlockTaken, IsFinished, IsIdleLine, IsFreeOfIdle};
-ghost use Rattle.nova_rounds.specs.UnderWay.{IsReady, Passed, IsAlong, IsBegun};
+ghost use Rattle.nova_rounds.specs.UnderWay.{IsAlong, IsBegun};
 
-use crate::turns::{begin, go, kept, make_places};
+use crate::turns::{begin, kept, take};
 use nova_finished::{Finished, RunFault};
 use nova_kernel::Kernel;
 use nova_order::Order;
-use std::alloc::{AllocError, Global};
+use std::alloc::Global;
 
-/// Turns of one processor, until one is idle; and whether none was.
-fn take(run: &mut Finished, cpu: u32, count: u64) -> Result<bool, AllocError>
-    requires ready { IsReady run.old }
-    requires more { length run.old.trace.items + count ≤ run.old.limit }
-    requires cpu { cpu < run.old.kernel.state.cpus }
-    ensures { IfOk result (λ all. IsBlockTaken run.old.kernel.state (replicate count cpu) (Passed run.old (replicate count cpu) run.new) all) }
-{
-    make_places(run, count)?;
-    let mut left = count;
-    while left > 0 {
-        let taken = go(run, cpu, left)?;
-        if taken == 0 {
-            return Ok(false);
-        }
-        left -= taken;
-    }
-    Ok(true)
-}
-
-/// The turns of an order, until one meets an idle processor, by a run that has taken none.
+/// Takes the turns of `order`, until one meets an idle processor, by a run that has taken none. There are places for their events.
 fn take_all(run: &mut Finished, order: &Order) -> Result<(), RunFault>
     requires begun { IsBegun run.old }
     requires within { IsTrue (is_within run.old.kernel.state.cpus run.old.limit order.now.blocks) }
+    requires places { total order.now.blocks ≤ run.old.trace.capacity }
     ensures along { OnOk result (IsAlong run.old.kernel.state run.old.limit run.new order.now.blocks) }
     ensures idle { (line : ℕ) → result ≡ Err (OrderIdle line) → IsIdleLine run.old.kernel.state order.now.blocks line }
 {
     for (index, block) in order.blocks().iter().enumerate() {
-        if !take(run, block.cpu, block.count)? {
+        if take(run, block.cpu, block.count)? < block.count {
             return Err(RunFault::OrderIdle(index as u64 + 1));
         }
     }

@@ -1,10 +1,10 @@
 ghost use Rattle.std.specs.Prelude.{◌≡◌, ◌+◌, ◌^◌, ◌<◌, ◌≤◌, IfOk, IfErr, OnOk};
 ghost use Rattle.nova_model.specs.Runs.{rounds, pass};
+ghost use Rattle.nova_finished.specs.Finished.{IsFinished};
+ghost use Rattle.nova_finished.specs.UnderWay.{IsReady, Passed, left};
 ghost use Rattle.nova_finished.specs.declared.fault.RunFault.TheVariants.{Memory};
-ghost use Rattle.nova_rounds.specs.Finished.{IsFinished};
-ghost use Rattle.nova_rounds.specs.UnderWay.{IsReady, Passed, left};
 
-use crate::turns::{begin, go, kept, make_places, turn};
+use crate::turns::{begin, kept, make_places, take};
 use nova_finished::{Finished, RunFault};
 use nova_kernel::Kernel;
 use std::alloc::{AllocError, Global};
@@ -21,7 +21,7 @@ fn turn_within(run: &mut Finished, cpu: u32, more: u64) -> Result<u64, AllocErro
     ensures more { IfOk result (λ more. more ≡ left run.new) }
     ensures places { run.new.trace.capacity ≡ run.old.trace.capacity }
 {
-    if more > 0 && turn(run, cpu)? {
+    if more > 0 && run.turn(cpu)? {
         return Ok(more - 1);
     }
     Ok(more)
@@ -64,32 +64,16 @@ fn run_out(run: &mut Finished) -> Result<(), AllocError>
     Ok(())
 }
 
-/// Runs the only processor: takes its turns, until it is idle or there are as many turns as there may be.
-fn run_lone(run: &mut Finished) -> Result<(), AllocError>
-    requires ready { IsReady run.old }
-    requires places { run.old.limit ≤ run.old.trace.capacity }
-    requires lone { run.old.kernel.state.cpus ≡ 1 }
-    ensures { OnOk result (Passed run.old (rounds run.old.kernel.state (left run.old)) run.new) }
-{
-    let mut more = run.limit - run.trace.len();
-    while more > 0 {
-        let taken = go(run, 0, more)?;
-        if taken == 0 {
-            return Ok(());
-        }
-        more -= taken;
-    }
-    Ok(())
-}
-
-/// Passes over the processors of a run, of which there may be one.
+/// Passes over the processors of a run. A pass over one processor is a turn, so that its turns are taken at once.
 fn run_over(run: &mut Finished) -> Result<(), AllocError>
     requires ready { IsReady run.old }
     requires places { run.old.limit ≤ run.old.trace.capacity }
     ensures { OnOk result (Passed run.old (rounds run.old.kernel.state (left run.old)) run.new) }
 {
     if run.kernel.cpus() == 1 {
-        run_lone(run)
+        let more = run.limit - run.trace.len();
+        take(run, 0, more)?;
+        Ok(())
     } else {
         run_out(run)
     }

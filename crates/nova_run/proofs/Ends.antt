@@ -11,8 +11,8 @@ use Rattle.law_turns.proofs.Processors.{run_cpus}
 use Rattle.nova_order.specs.Blocks.{turns}
 use Rattle.nova_order.proofs.BlockLemmas.{length_turns}
 use Rattle.nova_order.proofs.BoundLemmas.{all_append}
-use Rattle.nova_rounds.specs.Finished.{IsFinished}
-use Rattle.nova_rounds.specs.UnderWay.{IsReady, Passed, left}
+use Rattle.nova_finished.specs.Finished.{IsFinished}
+use Rattle.nova_finished.specs.UnderWay.{IsReady, Passed, left}
 use Rattle.nova_finished.specs.declared.finished.Finished.{Finished}
 use Rattle.nova_finished.proofs.Passing.{Finished-on}
 

@@ -4,8 +4,9 @@ ghost use Rattle.law_turns.specs.Orders.{IsRunOut};
 ghost use Rattle.nova_lock.specs.Seats.{SeatView};
 ghost use Rattle.nova_order.specs.Blocks.{turns};
 ghost use Rattle.nova_finished.specs.declared.fault.RunFault.TheVariants.{Memory};
-ghost use Rattle.nova_rounds.specs.Finished.{IsFinished, IsFreeOfIdle};
-ghost use Rattle.nova_rounds.specs.UnderWay.{IsReady};
+ghost use Rattle.nova_finished.specs.Finished.{IsFinished};
+ghost use Rattle.nova_finished.specs.UnderWay.{IsReady};
+ghost use Rattle.nova_model.specs.Runs.{IsFreeOfIdle};
 ghost use Rattle.nova_shared.specs.Ran.{Ran, IsCpuSeat, AreCpuSeats};
 
 use crate::bursts::burst;
@@ -56,8 +57,8 @@ struct Taken {
     by_burst: bool,
 }
 
-/// Takes one step of a worker: a burst, or where that came to nothing a turn, and after a plain step those that come next. It tells how many turns
-/// were taken; none where the processor is idle, there are as many turns as there may be, or memory is refused.
+/// Takes one step of a worker: a burst, or where that came to nothing plain steps and the turn behind them. It tells how many turns were taken; none
+/// where the processor is idle, there are as many turns as there may be, or memory is refused.
 fn step<R: Wait, G: Gate>(
     rt: &R,
     alloc: Global,
@@ -332,9 +333,9 @@ fn share<R: Threads + Wait + Sync, G: Gate + Sync>(
 /// it looks again and again, some thousand times at most, until no other worker has anything to do. A step is a burst where a virtual CPU acts, can
 /// be leased, and has 256 turns of its quantum left, or 4,096 where there is one worker: instructions up to the end of its quantum, and no more than
 /// its worker's share of the turns that may follow and are promised to no other burst. They run on copies of up to 16 frames beside the other
-/// processors, and then count as that many turns. Otherwise, or if the burst commits nothing, a step is one turn; a plain step is followed by up to
-/// 4,095 plain steps that come next, where there are several workers an unpredictable number, few in the beginning. Before each step and each look
-/// the worker calls the gate, with the processor and how many turns of it there were.
+/// processors, and then count as that many turns. Otherwise, or if the burst commits nothing, a step is up to 4,096 turns, plain steps and the turn
+/// behind them; where there are several workers at most an unpredictable number, few in the beginning. Before each step and each look the worker
+/// calls the gate, with the processor and how many turns of it there were.
 ///
 /// Whatever the workers did, there is one order of turns, and what comes is the run over it. It ends quiet or has `limit` turns. The only error is
 /// `Memory`, where memory is refused. It may wait; what it promises holds if it returns.

@@ -10,12 +10,23 @@ use Rattle.law_turns.proofs.Processors.{run_cpus}
 use Rattle.nova_order.specs.Blocks.{turns}
 use Rattle.nova_order.proofs.BlockLemmas.{length_turns}
 use Rattle.law_turns.proofs.Passes.{free_append}
-use Rattle.nova_finished.specs.Runs.{IsSharedRun}
+use Rattle.nova_finished.specs.Finished.{IsFinished}
+use Rattle.nova_finished.specs.UnderWay.{HasRoom, IsReady, Passed, left, taken}
+use Rattle.nova_shared.specs.Runs.{IsSharedRun}
 use Rattle.nova_shared.specs.Told.{IsTold, IsRefused}
-use Rattle.nova_finished.specs.UnderWay.{HasRoom, Passed, left, taken}
 use Rattle.nova_finished.specs.declared.finished.Finished.{Finished}
 use Rattle.nova_shared.specs.declared.turn.SharedTurn.TheVariants.{Stepped, Idle, AtLimit}
 use Rattle.nova_finished.proofs.Passing.{run_on, trace_on}
+
+-- a run that has taken no turn
+pub shared_begun : (k : KernelState) (limit : ℕ) (f : Finished) → IsFinished k [] limit f → IsReady f → (limit ≤ f.order.spare) × (limit ≤ f.trace.capacity) → IsSharedRun f
+shared_begun k limit f begun ready made = let most = begun.limit in record {
+  kernel = begun.kernel ∙ ap₂ run (sym begun.opening) (sym begun.order);
+  trace = begun.trace ∙ ap₂ trace (sym begun.opening) (sym begun.order);
+  no_idle = subst (IsFreeOfIdle f.opening.state) (sym begun.order) tt;
+  ready = ready;
+  room = record { order = omega (arith, most, made.0); trace = omega (arith, most, made.1) };
+}
 
 -- the turn of a processor that is not idle is no idle one
 pub free_taken : (k : KernelState) (cpu : ℕ) → IsFreeOfIdle k (taken k cpu)

@@ -4,3 +4,4 @@ pub use Rattle.nova_lock.specs.Seats
 pub mod Ran
 pub mod Told
 pub mod Seen
+pub mod Runs

@@ -5,7 +5,6 @@ use Rattle.nova_kernel.specs.Views.{IsMaking}
 use Rattle.nova_model.specs.State.{KernelState}
 use Rattle.nova_model.specs.Turn.{turn}
 use Rattle.nova_model.specs.Runs.{run}
-pub use Rattle.nova_finished.specs.UnderWay.{HasNone}
 use Rattle.nova_shared.specs.declared.turn.SharedTurn.{SharedTurn}
 use Rattle.nova_shared.specs.declared.turn.SharedTurn.TheVariants.{Stepped, Idle, AtLimit}
 
@@ -17,3 +16,8 @@ IsTold k most cpu found left (AtLimit n) = (left ≡ found) × (n ≡ length fou
 -- memory was refused to a turn that makes an object or a derivation
 abbrev pub IsRefused : KernelState → ℕ → ℕ → List ℕ → List ℕ → Type 0
 IsRefused k most cpu found left = (left ≡ found) × (length found < most) × IsMaking (run k found) cpu
+
+-- where no turn was taken though there may be as many as are left, the processor is idle, or memory was refused to a turn that makes an object or a
+-- derivation
+abbrev pub HasNone : KernelState → ℕ → ℕ → Type 0
+HasNone k left cpu = 0 < left → IsSome (turn k cpu) → IsMaking k cpu

@@ -188,7 +188,7 @@ impl Shared {
         let Ok(room) = Vec::with_capacity(alloc, cpus as usize) else {
             return Err((kernel, AllocError));
         };
-        let run = match Finished::begin(alloc, kernel, limit) {
+        let run = match Finished::begin(alloc, kernel, limit, limit, limit) {
             Ok(run) => run,
             Err(kernel) => return Err((kernel, AllocError)),
         };
@@ -300,10 +300,9 @@ impl Shared {
         self.lock.with(rt, seat, &mut call)
     }
 
-    /// Takes at most `most` turns of the processor of `seat` in one use of the lock, and returns how many. That is one, and after a plain step the
-    /// plain steps that come next. Where there may be a turn, none is taken only where the processor is idle or memory is refused. The order of turns
-    /// that it finds begins with the seat's front and has all turns that the seat ever took. The order that it leaves has these turns more, and is
-    /// the seat's new front.
+    /// Takes at most `most` turns of the processor of `seat` in one use of the lock, and returns how many: plain steps, and the turn behind them.
+    /// Where there may be a turn, none is taken only where the processor is idle or memory is refused. The order of turns that it finds begins with
+    /// the seat's front and has all turns that the seat ever took. The order that it leaves has these turns more, and is the seat's new front.
     ///
     /// It may wait for other processors; what it promises holds if it returns.
     pub fn turns(&self, rt: &impl Wait, seat: &mut CpuSeat, most: u64) -> u64

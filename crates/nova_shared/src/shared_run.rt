@@ -1,7 +1,8 @@
 ghost use Rattle.std.specs.Prelude.{◌≡◌, ◌+◌, ◌-◌, ◌%◌, ◌^◌, ◌<◌, ◌≤◌, ◌++◌, [], length, replicate, IfOk, IfErr};
 ghost use Rattle.nova_model.specs.Runs.{run};
 ghost use Rattle.nova_order.specs.Blocks.{turns};
-ghost use Rattle.nova_finished.specs.Runs.{IsSharedRun};
+ghost use Rattle.nova_shared.specs.Runs.{IsSharedRun};
+ghost use Rattle.nova_finished.specs.UnderWay.{HasRoom, IsGone, IsReady};
 ghost use Rattle.nova_shared.specs.Told.{HasNone, IsTold, IsRefused};
 
 use crate::block::BlockDone;
@@ -13,7 +14,6 @@ use std::marker::Model;
 
 /// A run that is on its way, behind the lock. Its kernel is the run of its opening over its order, its trace is that run's, no turn of the
 /// order is idle, and there is room for as many turns as there may be.
-#[derive(Drop)]
 pub struct SharedRun {
     run: Finished,
     uses: u64,
@@ -31,7 +31,7 @@ pub struct Opening {
 impl Model for SharedRun {
     ghost use Rattle.nova_order.specs.Blocks.{turns};
     ghost use Rattle.nova_shared.specs.Ran.{Ran};
-    ghost use Rattle.nova_finished.specs.Runs.{IsSharedRun};
+    ghost use Rattle.nova_shared.specs.Runs.{IsSharedRun};
 
     ghost Value = { Ran };
 
@@ -51,6 +51,22 @@ impl Historied for SharedRun {
 
     fn blocks(&self) -> u64 {
         self.uses
+    }
+}
+
+/// Takes at most `most` turns of the processor `cpu` by a run that is shared, and returns how many: those before memory was refused, where it was.
+fn take(run: &mut Finished, cpu: u32, most: u64) -> u64
+    requires ready { IsReady run.old }
+    requires room { HasRoom run.old }
+    requires more { length run.old.trace.items + most ≤ run.old.limit }
+    requires cpu { cpu < run.old.kernel.state.cpus }
+    ensures gone { IsGone run.old cpu most result run.new }
+    ensures room { HasRoom run.new }
+    ensures none { result ≡ 0 → HasNone run.old.kernel.state most cpu }
+{
+    match run.go(cpu, most) {
+        Ok(taken) => taken,
+        Err(taken) => taken,
     }
 }
 
@@ -99,8 +115,8 @@ impl SharedRun {
         }
     }
 
-    /// Takes a turn of the processor `cpu`, and after a plain step those that come next: at most `most`. Where there may be a turn, none is taken
-    /// only where the processor is idle or memory is refused.
+    /// Takes at most `most` turns of the processor `cpu`: plain steps, and the turn behind them. Where there may be a turn, none is taken only where
+    /// the processor is idle or memory is refused.
     pub(crate) fn turns(&mut self, cpu: u32, most: u64) -> BlockDone
         requires cpu { cpu < self.old.opening.kernel.state.cpus }
         ensures same { (self.new.opening ≡ self.old.opening) × (self.new.uses ≡ self.old.uses) }
@@ -110,7 +126,7 @@ impl SharedRun {
         ensures none { result.taken ≡ 0 → 0 < most → HasNone (run self.old.opening.kernel.state self.old.order) (self.old.opening.limit - length self.old.order) cpu }
     {
         let left = self.run.limit - self.run.trace.len();
-        let taken = self.run.go(cpu, most.min(left));
+        let taken = take(&mut self.run, cpu, most.min(left));
         BlockDone {
             taken,
             seen: self.run.trace.len(),

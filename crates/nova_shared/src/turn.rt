@@ -44,7 +44,7 @@ impl LockCall<SharedRun> for OneTurn {
     }
 }
 
-/// A use of the lock in which a processor takes a turn, and after a plain step those that come next: at most `most`.
+/// A use of the lock in which a processor takes at most `most` turns: plain steps, and the turn behind them.
 #[derive(Clone, Copy)]
 pub struct Turns {
     pub cpu: u32,

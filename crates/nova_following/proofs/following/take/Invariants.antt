@@ -1,6 +1,5 @@
 use Rattle.std.proofs.Common.{replicate, true}
-use Rattle.nova_finished.specs.Finished.{IsBlockTaken}
-use Rattle.nova_following.specs.Passes.{HasFollowed}
+use Rattle.nova_following.specs.Passes.{HasFollowed, IsBlockTaken}
 use Rattle.nova_following.proofs.following.take.Given as goal
 
 -- the turns so far

@@ -3,7 +3,7 @@ use Rattle.std.specs.Prelude.{IsTrue}
 use Rattle.nova_model.specs.State.{KernelState}
 use Rattle.nova_order.specs.Blocks.{turns, is_within}
 use Rattle.nova_finished.specs.declared.fault.RunFault.TheVariants.{OrderIdle}
-use Rattle.nova_rounds.specs.Finished.{IsFinished}
+use Rattle.nova_finished.specs.Finished.{IsFinished}
 use Rattle.nova_rounds.specs.UnderWay.{IsAlong}
 use Rattle.nova_rounds.proofs.Blocks.{along_here, begun_here, idle_here}
 use Rattle.nova_rounds.proofs.Keeping.{kept_fault, kept_holds, kept_runs}

@@ -1,6 +1,7 @@
 use Rattle.std.proofs.Common.{◌≡◌, ◌-◌}
 use Rattle.nova_model.specs.Runs.{pass}
-use Rattle.nova_rounds.specs.UnderWay.{IsUnderWay, left}
+use Rattle.nova_finished.specs.UnderWay.{left}
+use Rattle.nova_rounds.specs.UnderWay.{IsUnderWay}
 use Rattle.nova_rounds.proofs.rounds.pass.Given as goal
 
 -- the processors so far, and those that are left

@@ -1,7 +1,7 @@
 use Rattle.std.proofs.Common.{◌≡◌}
 use Rattle.nova_model.specs.Runs.{rounds}
 use Rattle.nova_finished.specs.declared.fault.RunFault.TheVariants.{Memory}
-use Rattle.nova_rounds.specs.Finished.{IsFinished}
+use Rattle.nova_finished.specs.Finished.{IsFinished}
 use Rattle.nova_rounds.proofs.Keeping.{kept_fails, kept_runs}
 use Rattle.nova_rounds.proofs.Passes.{Finished-rounds}
 use Rattle.nova_rounds.proofs.rounds.round_robin.Goals as goal

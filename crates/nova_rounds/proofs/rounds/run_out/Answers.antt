@@ -1,5 +1,5 @@
 use Rattle.std.proofs.Common.{rules, ◌≡◌, ◌<◌}
-use Rattle.nova_rounds.specs.UnderWay.{left}
+use Rattle.nova_finished.specs.UnderWay.{left}
 use Rattle.nova_rounds.proofs.Passes.{IsUnderWay-first, IsUnderWay-pass, Passed-ended, Passed-all}
 use Rattle.nova_rounds.proofs.rounds.run_out.Goals as goal
 

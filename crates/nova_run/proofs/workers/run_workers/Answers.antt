@@ -2,7 +2,7 @@ use Rattle.std.proofs.Common.{◌≡◌}
 use Rattle.law_turns.specs.Orders.{IsRunOut}
 use Rattle.nova_order.specs.Blocks.{turns}
 use Rattle.nova_finished.specs.declared.fault.RunFault.TheVariants.{Memory}
-use Rattle.nova_rounds.specs.Finished.{IsFinished}
+use Rattle.nova_finished.specs.Finished.{IsFinished}
 use Rattle.nova_run.proofs.Ends.{finished_out, all_out}
 use Rattle.nova_rounds.proofs.Keeping.{kept_fails, kept_runs}
 use Rattle.nova_run.proofs.workers.run_workers.Goals as goal

@@ -1,15 +1,20 @@
-use Rattle.std.proofs.Common.{rules, ◌++◌, ◌∙◌, refl, ap}
-use Rattle.nova_finished.specs.Steps.{repeated}
-use Rattle.nova_finished.proofs.Stepping.{passed_on, steps_taken}
+use Rattle.std.proofs.Common.{rules, ◌≡◌, ◌≤◌, arith, subst}
+use Rattle.std.specs.Prelude.{None}
+use Rattle.nova_finished.specs.UnderWay.{IsGone, left}
+use Rattle.nova_finished.proofs.Taken.{gone}
 use Rattle.nova_finished.proofs.finished.Finished.block.Goals as goal
 
-pub returns-clause-passed : goal.returns-clause-passed
-returns-clause-passed g c =
+pub returns-clause-gone : goal.returns-clause-gone
+returns-clause-gone g c =
     let f = c.args.self.now in
-    let d = c.act-taken in
-    let e = c.enter.ensures in
-    passed_on f.kernel.state c.args.cpu d.result d.ensures.steps f c.enter.new.self refl c.requires.ready (search rules) d.new.kernel d.ensures.state d.ensures.room
-    e.same.0 e.same.1 e.same.2 e.order e.sum (e.trace ∙ ap (λ o. f.trace.items ++ repeated o d.result) c.plain_step-event.ensures)
-
-pub returns-clause-no_idle : goal.returns-clause-no_idle
-returns-clause-no_idle g c = steps_taken c.args.self.now.kernel.state c.args.cpu c.act-taken.result c.act-taken.ensures.steps
+    let d = c.act-count in
+    let e = c.in-Ok.ensures in
+    let within = c.requires.ready.within in
+    let same = c.enter.ensures.same in
+    let is : c.in-Ok.field-0 ≡ d.result = omega (arith, e.turns) in
+    let few : d.result ≤ left f = search rules in
+    subst (λ n. IsGone f c.args.cpu (left f) n c.enter.new.self) is
+    (gone {E = Unit {0}} f c.enter.new.self c.args.cpu (left f) d.result c.plain_step-event.result None d.new.kernel
+    c.requires.ready (omega (arith, within)) same.0 same.1 same.2
+    (record { steps = d.ensures.steps; event = c.plain_step-event.ensures; alone = λ none. d.ensures.state; answer = tt; state = tt; memory = tt })
+    c.in-Ok.field-0 e.turns (omega (arith, few)) (let log = d.ensures.room in omega (arith, log)) e.order e.sum e.trace)

@@ -12,13 +12,13 @@ block-taken-requires-clause-cpu g c =
 pub invariant_of-self : goal.invariant_of-self
 invariant_of-self g c =
     let e = c.block-taken.ensures in
-    shared_more c.self.inside.run c.block-taken.new.self c.args.cpu c.self.invariant _ e.no_idle e.passed e.room
+    shared_more c.self.inside.run c.block-taken.new.self c.args.cpu c.self.invariant _ e.gone.no_idle e.gone.passed e.room
 
 pub returns-clause-seen : goal.returns-clause-seen
 returns-clause-seen g c =
     let n = c.block-taken.result in
     subst (λ (r : Ran). (c.len.result ≡ length r.order + n) × (c.len.result ≤ r.opening.limit)) c.self.view_is
-    (seen_more c.self.inside.run c.block-taken.new.self c.args.cpu c.self.invariant c.len.result n (search rules) c.block-taken.ensures.passed)
+    (seen_more c.self.inside.run c.block-taken.new.self c.args.cpu c.self.invariant c.len.result n (search rules) c.block-taken.ensures.gone.passed)
 
 pub returns-clause-tells : goal.returns-clause-tells
 returns-clause-tells g c =

@@ -31,7 +31,7 @@ returns-then-not-took-clause-told c =
 
 pub invariant_of-self-2 : goal.invariant_of-self-2
 invariant_of-self-2 c =
-    shared_on c.self.inside.run c.turn.new.self c.args.cpu c.self.invariant c.in-Ok.ensures.passed c.in-Ok.ensures.room
+    shared_on c.self.inside.run c.turn.new.self c.args.cpu c.self.invariant c.in-Ok.ensures.passed (c.in-Ok.ensures.room c.self.invariant.room)
 
 pub returns-clause-told : goal.returns-clause-told
 returns-clause-told c =

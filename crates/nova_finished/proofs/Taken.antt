@@ -1,6 +1,6 @@
 -- Turns that were taken in one call: plain steps, and a turn that may have come after them.
 use Rattle.std.proofs.Common.{◌≡◌, ℕ, ◌+◌, ◌<◌, ◌≤◌, List, [], ◌∷◌, ◌++◌, length, replicate, refl, ap, ap₂, sym, ◌∙◌, subst, arith, append_assoc}
-use Rattle.std.specs.Prelude.{true, false, is_some, Option, Some, None, option_map, Result, Ok, Err, IfSome, IfOk, OnOk, IsOk}
+use Rattle.std.specs.Prelude.{true, is_some, Option, Some, None, option_map, Result, Ok, Err, IfSome, IfOk, OnOk, OnErr}
 use Rattle.std.proofs.lemmas.List.{length-append, length-replicate, replicate-append-replicate}
 use Rattle.law_leases.specs.Advances.{step_of}
 use Rattle.law_turns.proofs.Passes.{free_append, run_append}
@@ -15,9 +15,8 @@ use Rattle.nova_model.specs.declared.event.Event.{Event}
 use Rattle.nova_model.specs.declared.event.Turn.{Turn}
 use Rattle.nova_model.specs.declared.event.Turn.TheVariants.{Idle, Stepped}
 use Rattle.nova_order.specs.Blocks.{turns, total}
-use Rattle.nova_rounds.specs.Taken.{last_events}
-use Rattle.nova_rounds.specs.UnderWay.{IsReady, Passed}
-use Rattle.nova_finished.specs.Steps.{ArePlainSteps, repeated}
+use Rattle.nova_finished.specs.Steps.{ArePlainSteps, last_events, repeated}
+use Rattle.nova_finished.specs.UnderWay.{IsGone, IsReady, Passed}
 use Rattle.nova_finished.specs.declared.finished.Finished.{Finished}
 use Rattle.nova_finished.proofs.Passing.{trace-append}
 use Rattle.nova_finished.proofs.Stepping.{events, run_turns, steps_taken, told_steps}
@@ -69,58 +68,51 @@ module _ {E : Type 0} (n : ℕ) where
   last_fits most (Some (Ok Idle)) few fewer = omega (arith, few)
   last_fits most (Some (Ok (Stepped event))) few fewer = omega (arith, fewer)
 
--- what it leaves of a state, and what it tells
+-- what it leaves of a state
 record IsLast {E : Type 0} (s : KernelState) (cpu : ℕ) (last : Option (Result Turn E)) (new : KernelState) : Type 0 where
   state : new ≡ run s (replicate (last_turns last) cpu)
   events : trace s (replicate (last_turns last) cpu) ≡ last_events last
   free : IsFreeOfIdle s (replicate (last_turns last) cpu)
-  idle : is_some last ≡ true → last_turns last ≡ 0 → is_some (turn s cpu) ≡ false
 
 module _ {E : Type 0} (s : KernelState) (cpu : ℕ) (new : KernelState) where
   answered : (o : Option Step) (t : Turn) → turn s cpu ≡ o → t ≡ answer_of o → new ≡ state_after s o → IsLast {E = E} s cpu (Some (Ok t)) new
-  answered None Idle is answer state = record { state = state; events = refl; free = tt; idle = λ there none. ap is_some is }
+  answered None Idle is answer state = record { state = state; events = refl; free = tt }
   answered (Some step) (Stepped e) is answer state = record {
     state = state ∙ sym (ap (state_after s) is);
     events =
         let same : step.event ≡ e = cc in
         ap (λ (o : Option Step). in_front (option_map (λ (s : Step). s.event) o) []) is ∙ ap (λ (x : Event). x ∷ []) same;
     free = (ap is_some is, tt);
-    idle = λ there none. absurd (omega (arith, none));
   }
   answered None (Stepped e) is answer state = absurd cc
   answered (Some step) Idle is answer state = absurd cc
 
-  came_last : (last : Option (Result Turn E)) → IfSome last (λ l. IsOk l) → (last ≡ None → new ≡ s) → IfSome last (λ l. IfOk l (λ t. t ≡ answer_of (turn s cpu)))
-      → IfSome last (λ l. OnOk l (new ≡ state_after s (turn s cpu))) → IsLast s cpu last new
-  came_last None went alone answer state = record { state = alone refl; events = refl; free = tt; idle = λ there none. absurd cc }
-  came_last (Some (Err refused)) went alone answer state = absurd cc
-  came_last (Some (Ok t)) went alone answer state = answered (turn s cpu) t refl answer state
+  came_last : (last : Option (Result Turn E)) → (last ≡ None → new ≡ s) → IfSome last (λ l. IfOk l (λ t. t ≡ answer_of (turn s cpu)))
+      → IfSome last (λ l. OnOk l (new ≡ state_after s (turn s cpu))) → IfSome last (λ l. OnErr l (new ≡ s)) → IsLast s cpu last new
+  came_last None alone answer state memory = record { state = alone refl; events = refl; free = tt }
+  came_last (Some (Err refused)) alone answer state memory = record { state = memory; events = refl; free = tt }
+  came_last (Some (Ok t)) alone answer state memory = answered (turn s cpu) t refl answer state
 
 -- ALL OF THEM
 
 -- turns that a kernel took in one call: `n` plain steps with this event, and this answer last
 pub record AreTaken {E : Type 0} (k : KernelState) (cpu n : ℕ) (told : Option Event) (last : Option (Result Turn E)) (new : KernelState) : Type 0 where
+  pub steps : ArePlainSteps (choice k cpu) cpu n (trace k (replicate n cpu))
   pub event : told ≡ option_map (step_of cpu) (choice k cpu)
-  pub none : told ≡ None → n ≡ 0
-  pub events : IfSome told (λ e. trace k (replicate n cpu) ≡ replicate n e)
-  pub some : last ≡ None → 0 < n
   pub alone : last ≡ None → new ≡ run k (replicate n cpu)
   pub answer : IfSome last (λ l. IfOk l (λ t. t ≡ answer_of (turn (run k (replicate n cpu)) cpu)))
   pub state : IfSome last (λ l. OnOk l (new ≡ state_after (run k (replicate n cpu)) (turn (run k (replicate n cpu)) cpu)))
+  pub memory : IfSome last (λ l. OnErr l (new ≡ run k (replicate n cpu)))
 
-module _ {E : Type 0} (k : KernelState) (cpu n : ℕ) (event : Option Event) (last : Option (Result Turn E)) (new : KernelState)
-    (took : AreTaken k cpu n event last new) (went : IfSome last (λ l. IsOk l)) where
+module _ {E : Type 0} (k : KernelState) (cpu n : ℕ) (event : Option Event) (last : Option (Result Turn E)) (new : KernelState) (took : AreTaken k cpu n event last new) where
   front : List ℕ
   front = replicate n cpu
 
   back : List ℕ
   back = replicate (last_turns last) cpu
 
-  steps : ArePlainSteps (choice k cpu) cpu n (trace k (replicate n cpu))
-  steps = told_steps (choice k cpu) cpu n (trace k (replicate n cpu)) event took.event took.none took.events
-
   ended : IsLast (run k (replicate n cpu)) cpu last new
-  ended = came_last (run k (replicate n cpu)) cpu new last went took.alone took.answer took.state
+  ended = came_last (run k (replicate n cpu)) cpu new last took.alone took.answer took.state took.memory
 
   split : front ++ back ≡ replicate (n + last_turns last) cpu
   unfolding front back
@@ -134,61 +126,47 @@ module _ {E : Type 0} (k : KernelState) (cpu n : ℕ) (event : Option Event) (la
   unfolding front back
   all_events =
       sym (ap (trace k) split) ∙ trace-append k front back
-      ∙ ap₂ (λ (xs ys : List Event). xs ++ ys) (events k cpu n steps ∙ ap (λ (o : Option Event). repeated o n) (sym took.event)) ended.events
+      ∙ ap₂ (λ (xs ys : List Event). xs ++ ys) (events k cpu n took.steps ∙ ap (λ (o : Option Event). repeated o n) (sym took.event)) ended.events
 
   all_free : IsFreeOfIdle k (replicate (n + last_turns last) cpu)
   unfolding front back
-  all_free = subst (IsFreeOfIdle k) split (free_append k front back (steps_taken k cpu n steps) ended.free)
-
-  all_idle : n + last_turns last ≡ 0 → is_some (turn k cpu) ≡ false
-  all_idle none =
-      let first : n ≡ 0 = omega (arith, none) in
-      let then_ : last_turns last ≡ 0 = omega (arith, none) in
-      sym (ap (λ (m : ℕ). is_some (turn (run k (replicate m cpu)) cpu)) first) ∙ ended.idle (tried last took.some first) then_
-    where
-      tried : (l : Option (Result Turn E)) → (l ≡ None → 0 < n) → n ≡ 0 → is_some l ≡ true
-      tried (Some a) some none = refl
-      tried None some none = let there = some refl in absurd (omega (arith, none, there))
-
--- what a run became by `n` turns of a processor, at most `may`
-pub record IsGone (f : Finished) (cpu may n : ℕ) (g : Finished) : Type 0 where
-  pub most : n ≤ may
-  pub idle : n ≡ 0 → is_some (turn f.kernel.state cpu) ≡ false
-  pub passed : Passed f (replicate n cpu) g
-  pub free : IsFreeOfIdle f.kernel.state (replicate n cpu)
+  all_free = subst (IsFreeOfIdle k) split (free_append k front back (steps_taken k cpu n took.steps) ended.free)
 
 module _ {E : Type 0} (f g : Finished) (cpu most n : ℕ) (event : Option Event) (last : Option (Result Turn E)) (v : KernelView)
-    (took : AreTaken f.kernel.state cpu n event last v.state) (ready : IsReady f) (more : length f.trace.items + most ≤ f.limit)
-    (opening : g.opening ≡ f.opening) (kernel : g.kernel ≡ v) (limit : g.limit ≡ f.limit) where
+    (ready : IsReady f) (more : length f.trace.items + most ≤ f.limit) (opening : g.opening ≡ f.opening) (kernel : g.kernel ≡ v) (limit : g.limit ≡ f.limit) where
   -- a run in which they were entered
-  pub gone : n + last_turns last ≤ most → IfSome last (λ l. IsOk l) → f.kernel.room ≤ v.room + (n + last_turns last)
+  gone_so : AreTaken f.kernel.state cpu n event last v.state → n + last_turns last ≤ most → f.kernel.room ≤ v.room + (n + last_turns last)
       → turns g.order.blocks ≡ turns f.order.blocks ++ replicate (n + last_turns last) cpu → total g.order.blocks ≡ total f.order.blocks + (n + last_turns last)
       → g.trace.items ≡ (f.trace.items ++ repeated event n) ++ last_events last → IsGone f cpu most (n + last_turns last) g
-  gone few went room order sum added =
+  gone_so took few room order sum added =
       let list = replicate (n + last_turns last) cpu in
       let long : length list ≡ n + last_turns last = length-replicate (n + last_turns last) cpu in
-      let free = all_free f.kernel.state cpu n event last v.state took went in
-      let state = ap (λ (w : KernelView). w.state) kernel ∙ all_state f.kernel.state cpu n event last v.state took went in
+      let free = all_free f.kernel.state cpu n event last v.state took in
+      let state = ap (λ (w : KernelView). w.state) kernel ∙ all_state f.kernel.state cpu n event last v.state took in
       let place : g.kernel.room ≡ v.room = ap (λ (w : KernelView). w.room) kernel in
-      let told = all_events f.kernel.state cpu n event last v.state took went in
+      let told = all_events f.kernel.state cpu n event last v.state took in
       record {
-        most = few;
-        idle = all_idle f.kernel.state cpu n event last v.state took went;
+        few = few;
         passed = passed_by f g list ready free (omega arith) opening state (omega arith) limit order (omega arith)
             (added ∙ append_assoc f.trace.items (repeated event n) (last_events last) ∙ ap (λ (es : List Event). f.trace.items ++ es) (sym told));
-        free = free;
+        no_idle = free;
       }
 
-  -- the same where entering may be refused
-  pub gone_if : {F : Type 0} (r : Result ℕ F) → n + last_turns last ≤ most → OnOk r (IfSome last (λ l. IsOk l))
-      → f.kernel.room ≤ v.room + (n + last_turns last) → IfOk r (λ m. m ≡ n + last_turns last)
-      → IfOk r (λ m. turns g.order.blocks ≡ turns f.order.blocks ++ replicate m cpu) → IfOk r (λ m. total g.order.blocks ≡ total f.order.blocks + m)
-      → OnOk r (g.trace.items ≡ (f.trace.items ++ repeated event n) ++ last_events last) → IfOk r (λ m. IsGone f cpu most m g)
-  gone_if (Ok m) few went room is order sum added =
-      subst (λ (m : ℕ). IsGone f cpu most m g) (sym is)
-      (gone few went room (order ∙ ap (λ (m : ℕ). turns f.order.blocks ++ replicate m cpu) is) (omega (arith, sum, is)) added)
-  gone_if (Err e) few went room is order sum added = tt
+  pub gone : AreTaken f.kernel.state cpu n event last v.state → (m : ℕ) → m ≡ n + last_turns last → n + last_turns last ≤ most → f.kernel.room ≤ v.room + (n + last_turns last)
+      → turns g.order.blocks ≡ turns f.order.blocks ++ replicate m cpu → total g.order.blocks ≡ total f.order.blocks + m
+      → g.trace.items ≡ (f.trace.items ++ repeated event n) ++ last_events last → IsGone f cpu most m g
+  gone took m is few room order sum added =
+      subst (λ (i : ℕ). IsGone f cpu most i g) (sym is)
+      (gone_so took few room (order ∙ ap (λ (i : ℕ). turns f.order.blocks ++ replicate i cpu) is) (omega (arith, sum, is)) added)
 
-pub if_gone : {F : Type 0} (P Q : ℕ → Type 0) (r : Result ℕ F) → ((m : ℕ) → P m → Q m) → IfOk r P → IfOk r Q
-if_gone P Q (Ok m) leads holds = leads m holds
-if_gone P Q (Err e) leads holds = tt
+  -- the same of what take_turns says
+  pub gone_all : n ≤ most → IfSome last (λ l. n < most) → event ≡ option_map (step_of cpu) (choice f.kernel.state cpu) → (event ≡ None → n ≡ 0)
+      → IfSome event (λ e. trace f.kernel.state (replicate n cpu) ≡ replicate n e) → (last ≡ None → v.state ≡ run f.kernel.state (replicate n cpu))
+      → IfSome last (λ l. IfOk l (λ t. t ≡ answer_of (turn (run f.kernel.state (replicate n cpu)) cpu)))
+      → IfSome last (λ l. OnOk l (v.state ≡ state_after (run f.kernel.state (replicate n cpu)) (turn (run f.kernel.state (replicate n cpu)) cpu)))
+      → IfSome last (λ l. OnErr l (v.state ≡ run f.kernel.state (replicate n cpu))) → f.kernel.room ≤ v.room + (n + last_turns last)
+      → (m : ℕ) → m ≡ n + last_turns last → turns g.order.blocks ≡ turns f.order.blocks ++ replicate m cpu → total g.order.blocks ≡ total f.order.blocks + m
+      → g.trace.items ≡ (f.trace.items ++ repeated event n) ++ last_events last → IsGone f cpu most m g
+  gone_all few fewer told none all alone answer state memory room m is order sum added =
+      let steps = told_steps (choice f.kernel.state cpu) cpu n (trace f.kernel.state (replicate n cpu)) event told none all in
+      gone (record { steps = steps; event = told; alone = alone; answer = answer; state = state; memory = memory }) m is (last_fits n most last few fewer) room order sum added
