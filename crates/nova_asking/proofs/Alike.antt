@@ -1,6 +1,6 @@
 -- Alike states answer questions alike.
 use Rattle.std.proofs.Common.{◌≡◌, ◌∙◌, ℕ, List, [], ◌∷◌, ◌++◌, length, refl, sym, ap, ap₂}
-use Rattle.std.specs.Prelude.{Bool, true, false, ◌&&◌, ◌||◌, ◌==◌, not, nat_eq, flat_map, slice_get, Option, Some, None, option_map}
+use Rattle.std.specs.Prelude.{Bool, ◌&&◌, ◌||◌, ◌==◌, not, nat_eq, flat_map, slice_get, Option, Some, None}
 use Rattle.std.specs.List.{enumerate_from, list_any, range_with_len, starts_with}
 use Rattle.nova_objects.specs.declared.object.Object.{Object}
 use Rattle.nova_objects.specs.declared.object.Object.TheVariants.{Pd, Ec, Sc, Pt, Sm}
@@ -10,10 +10,10 @@ use Rattle.nova_model.specs.declared.context.EcState.{EcState}
 use Rattle.nova_report.specs.Report.{console_line, semaphore_of}
 use Rattle.law_alike.specs.Alike.{IsAlike, uncounted}
 use Rattle.nova_recording.specs.declared.watches.Watch.{Watch}
-use Rattle.nova_asking.specs.Locations.{another_is_at, is_at, is_at_by, is_there_by, next_actor, some_is_at, two_are_at}
+use Rattle.nova_asking.specs.Locations.{another_is_at, is_at, is_at_by, is_there_by, next_actor, two_are_at}
 use Rattle.nova_asking.specs.Outcomes.{outcome, state_of}
 use Rattle.nova_asking.specs.Questions.{IsOfState, has_context, has_word, is_dead, is_left, is_other_dead, is_so, shown, some_context, waits}
-use Rattle.nova_asking.specs.Stores.{some_stores, stores_by, stores_if, stores_on, stores_to}
+use Rattle.nova_asking.specs.Stores.{stores_by, stores_if, stores_on, stores_to}
 use Rattle.nova_asking.specs.declared.question.Location.{Location}
 use Rattle.nova_asking.specs.declared.question.Question.{Question}
 use Rattle.nova_asking.specs.declared.question.Question.TheVariants as question

@@ -12,7 +12,7 @@ use Rattle.nova_search.specs.Searches.{IsFirst, IsFirstAt, IsWay, state_at, stat
 use Rattle.nova_search.specs.declared.exploring.Explored.{Explored}
 use Rattle.nova_search.specs.declared.found.Found.{Found}
 use Rattle.nova_search.specs.declared.merging.Merging.TheVariants.{Alike}
-use Rattle.nova_asking.specs.Answers.{AreSeen, IsAnswer, IsFoundBy, extent_of}
+use Rattle.nova_asking.specs.Answers.{AreEqual, AreSeen, IsAnswer, IsFoundBy, extent_of}
 use Rattle.nova_asking.specs.Questions.{IsOfState, ahead, is_so}
 use Rattle.nova_asking.specs.Searched.{IsSearch, IsUnfound}
 use Rattle.nova_asking.specs.declared.answer.Answer.{Answer}
@@ -20,7 +20,7 @@ use Rattle.nova_asking.specs.declared.answer.Answer.TheVariants as answer
 use Rattle.nova_asking.specs.declared.extent.Extent.{Extent}
 use Rattle.nova_asking.specs.declared.question.Question.{Question}
 use Rattle.nova_asking.specs.declared.question.Question.TheVariants as question
-use Rattle.nova_asking.proofs.Told.{AreKnown, along, found_by, more_where_cut, never_by, seen_in, short_at, way_from}
+use Rattle.nova_asking.proofs.Told.{AreKnown, along, beyond_where_within, found_by, more_where_cut, never_by, seen_in, short_at, way_from}
 
 -- a question on states doesn't look ahead
 not_ahead : (q : Question) → IsOfState q → ahead q ≡ 0
@@ -36,6 +36,20 @@ not_ahead (question.DiesBut ec) is = refl
 not_ahead (question.Stuck ec) is = refl
 not_ahead (question.Hangs turns a) is = absurd is
 not_ahead question.Ends is = refl
+
+not_hanging : (q : Question) → IsOfState q → (extent : Extent) (k : KernelState) (limit : ℕ) (found : List Found) → AreEqual q extent k limit found
+not_hanging (question.Console console bytes) is extent k limit found = tt
+not_hanging (question.Word frame offset value) is extent k limit found = tt
+not_hanging (question.At location) is extent k limit found = tt
+not_hanging (question.AtBoth first second) is extent k limit found = tt
+not_hanging (question.Stores frame first last) is extent k limit found = tt
+not_hanging question.Blocked is extent k limit found = tt
+not_hanging question.Dies is extent k limit found = tt
+not_hanging (question.DiesOf ec) is extent k limit found = tt
+not_hanging (question.DiesBut ec) is extent k limit found = tt
+not_hanging (question.Stuck ec) is extent k limit found = tt
+not_hanging (question.Hangs turns a) is extent k limit found = absurd is
+not_hanging question.Ends is extent k limit found = tt
 
 module _ (known : AreKnown) (q : Question) (k : KernelState) (limit most : ℕ) (e : Explored) (found : List Found) (search : IsSearch Alike (is_so q) k limit most e) (of_state : IsOfState q)
     (alike : (s t : KernelState) → IsAlike s t → is_so q s ≡ is_so q t) (same : found ≡ e.found.items) where
@@ -53,8 +67,9 @@ module _ (known : AreKnown) (q : Question) (k : KernelState) (limit most : ℕ) 
       never_by known Alike (is_so q) q k limit limit most e found x states absent search reach same
       (record { each = λ order are. isnt none order (along Alike (is_so q) k limit limit most e search (omega arith) x its order are) })
       (along Alike (is_so q) k limit limit most e search (omega arith) x its)
-      (more_where_cut Alike (is_so q) k limit limit most e search (omega arith) x none its) many missing
-      (λ of s. subst (λ (o : Option ℕ). IsFirst (is_so q) (states_of e.found.items) o) none search.goal s)
+      (more_where_cut Alike (is_so q) k limit limit most e search (omega arith) x none its)
+      (beyond_where_within Alike (is_so q) k limit limit most e search (omega arith) x its) many missing
+      (λ of s. subst (λ (o : Option ℕ). IsFirst (is_so q) (states_of e.found.items) o) none search.goal s) (not_hanging q of_state x k limit e.found.items)
 
   pub told_found : (place states : ℕ) (blocks : List Block) → e.goal ≡ Some place → states ≡ length found → IsOrder blocks →
       ((d : KernelState) → IsWay (state_at found 0 d) (state_at found place d) (turns blocks)) → IsFoundBy q k limit blocks states

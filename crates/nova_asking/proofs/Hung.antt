@@ -9,12 +9,12 @@ use Rattle.nova_order.specs.Blocks.{IsOrder, turns as turns_of}
 use Rattle.nova_order.specs.declared.block.Block.{Block}
 use Rattle.nova_search.specs.Edges.{IsEdge, IsLed, edge}
 use Rattle.nova_search.specs.Merged.{HasOne}
-use Rattle.nova_search.specs.Searches.{AreProcessors, IsReached, IsWay, state_at, state_of, states_of}
+use Rattle.nova_search.specs.Searches.{AreProcessors, GoesBeyond, IsReached, IsWay, state_at, state_of, states_of}
 use Rattle.nova_search.specs.declared.edges.Edge.{Edge}
 use Rattle.nova_search.specs.declared.exploring.Explored.{Explored}
 use Rattle.nova_search.specs.declared.found.Found.{Found}
 use Rattle.nova_search.specs.declared.merging.Merging.TheVariants.{Same}
-use Rattle.nova_asking.specs.Answers.{IsAnswer, IsFoundBy, IsNever, extent_of}
+use Rattle.nova_asking.specs.Answers.{AreEqual, IsAnswer, IsFoundBy, IsNever, extent_of}
 use Rattle.nova_asking.specs.Hangs.{comes_within, is_aim}
 use Rattle.nova_asking.specs.Least.{AreDrawn, AreLeast, ComesAt, IsSeen, is_within, least_at, seems}
 use Rattle.nova_asking.specs.Questions.{is_so, is_sought}
@@ -27,7 +27,7 @@ use Rattle.nova_asking.specs.declared.extent.Extent.TheVariants.{Within, Cut}
 use Rattle.nova_asking.specs.declared.question.Question.{Question}
 use Rattle.nova_asking.specs.declared.question.Question.TheVariants as question
 use Rattle.nova_asking.proofs.Coming.{none_comes, only_none}
-use Rattle.nova_asking.proofs.Told.{AreKnown, GoAlong, along, found_by, never_by, no_goal, seen_in, short_by, way_from}
+use Rattle.nova_asking.proofs.Told.{AreKnown, GoAlong, along, beyond_where_within, covered_further, found_by, never_by, no_goal, seen_in, short_by, way_from}
 
 not_both : (b : Bool) → b ≡ true → b ≡ false → ⊥
 not_both b is not = absurd (cc)
@@ -180,18 +180,26 @@ module _ (turns : ℕ) (a : Aim) (k : KernelState) (limit most : ℕ) (e : Explo
       (λ not. subst (λ (n : ℕ). comes_within (is_aim a) n turns s ≡ false) (sym cpus)
       (none_within (is_aim a) k (limit + turns) e drawn over least are turns i d there (omega (arith, few)) not)) is
 
-  unfound_by : (x : Answer) (extent : Extent) → IsNever q k limit extent → GoAlong Same extent k (limit + turns) all → (extent ≡ Cut → most < length e.found.items) → IsUnfound q found extent x →
-      IsAnswer q k limit most x
-  unfound_by (answer.Found order _) extent never goes more is = absurd is
-  unfound_by (answer.Never y count absent) extent never goes more (kind, many, missing) =
+  equal_by : (extent : Extent) → GoAlong Same extent k (limit + turns) all → AreEqual q extent k limit e.found.items
+  equal_by extent goes order are = there_by (goes order (covered_further extent k limit (limit + turns) order (omega arith) are))
+    where
+      there_by : HasOne Same all (run k order) → Contains all (run k order)
+      there_by has = subst (λ (s : KernelState). Contains all s) has.is has.there
+
+  unfound_by : (x : Answer) (extent : Extent) → IsNever q k limit extent → GoAlong Same extent k (limit + turns) all → (extent ≡ Cut → most < length e.found.items) →
+      (extent ≡ Within → GoesBeyond k limit) → IsUnfound q found extent x → IsAnswer q k limit most x
+  unfound_by (answer.Found order _) extent never goes more beyond is = absurd is
+  unfound_by (answer.Never y count absent) extent never goes more beyond (kind, many, missing) =
       never_by known Same (λ (s : KernelState). false) q k limit (limit + turns) most e found y count absent search refl same
       (subst (λ (z : Extent). IsNever q k limit z) (sym kind) never)
       (subst (λ (z : Extent). GoAlong Same z k (limit + turns) all) (sym kind) goes)
-      (λ cut. more (sym kind ∙ cut)) many missing (λ of. absurd of)
+      (λ cut. more (sym kind ∙ cut)) (λ within. beyond (sym kind ∙ within)) many missing (λ of. absurd of)
+      (equal_by y (subst (λ (z : Extent). GoAlong Same z k (limit + turns) all) (sym kind) goes))
 
   pub cut_short : (x : Answer) → e.is_over ≡ false → IsUnfound q found Cut x → IsAnswer q k limit most x
   cut_short x not is =
-      unfound_by x Cut (record { each = λ order are. absurd are }) (λ order are. absurd are) (λ cut. search.more (no_goal all e.goal search.goal k) not) is
+      unfound_by x Cut (record { each = λ order are. absurd are }) (λ order are. absurd are) (λ cut. search.more (no_goal all e.goal search.goal k) not)
+      (λ within. absurd (cc)) is
 
   never_cut : (b : Bool) → extent_of true b ≡ Cut → ⊥
   never_cut true is = absurd (cc)
@@ -202,7 +210,9 @@ module _ (turns : ℕ) (a : Aim) (k : KernelState) (limit most : ℕ) (e : Explo
       unfound_by x (extent_of true e.is_whole)
       (record { each = λ order are. after_it order (goes order are) })
       (along Same (λ (s : KernelState). false) k (limit + turns) (limit + turns) most e search (omega arith) (extent_of true e.is_whole)
-      (ap (λ (b : Bool). extent_of b e.is_whole) (sym over))) (λ cut. absurd (never_cut e.is_whole cut)) is
+      (ap (λ (b : Bool). extent_of b e.is_whole) (sym over))) (λ cut. absurd (never_cut e.is_whole cut))
+      (beyond_where_within Same (λ (s : KernelState). false) k limit (limit + turns) most e search (omega arith) (extent_of true e.is_whole)
+      (ap (λ (b : Bool). extent_of b e.is_whole) (sym over))) is
     where
       goes : GoAlong Same (extent_of true e.is_whole) k limit all
       goes = along Same (λ (s : KernelState). false) k limit (limit + turns) most e search (omega arith) (extent_of true e.is_whole)
@@ -221,8 +231,18 @@ module _ (turns : ℕ) (a : Aim) (k : KernelState) (limit most : ℕ) (e : Explo
       unfound_by x Within
       (record { each = λ order are. none order are.0 are.1 })
       (λ order are. (search.within over).each order are.0 are.1)
-      (λ cut. absurd (cc)) is
+      (λ cut. absurd (cc)) (λ within. beyond) is
     where
+      r : IsReached k (state_at e.found.items place k)
+      r = All-contains (IsReached k) all (state_at e.found.items place k) search.reached (Contains-get_or all place k seen.place.there)
+
+      beyond : GoesBeyond k limit
+      beyond = record {
+        order = r.order;
+        way = subst (λ (s : KernelState). IsWay k s r.order) r.way.state r.way;
+        turns = inl (let more = late k in let turns = r.way.turns in omega (arith, more, turns));
+      }
+
       none : (order : List ℕ) → AreProcessors k.cpus order → k.turns + length order ≤ limit → is_so q (run k order) ≡ false
       none order are few =
           let more = late k in

@@ -1,5 +1,5 @@
 -- From states that were found to orders.
-use Rattle.std.proofs.Common.{◌≡◌, ◌∙◌, ◌+◌, ◌<◌, ◌≤◌, ℕ, zero, suc, List, [], ◌∷◌, refl, ap, sym, subst, length, arith}
+use Rattle.std.proofs.Common.{◌≡◌, ◌⊎◌, ◌∙◌, ◌+◌, ◌<◌, ◌≤◌, ℕ, zero, suc, List, [], ◌∷◌, refl, ap, sym, subst, length, arith, inl, inr}
 use Rattle.std.specs.Prelude.{All, Bool, true, false, Option, Some, None, Result, Ok, Err, IfOk, IfSome, Contains, nat_lt, slice_index_or}
 use Rattle.std.proofs.lemmas.List.{length-map}
 use Rattle.std.proofs.lemmas.List.Elements.{All-contains, Contains-get_or}
@@ -10,18 +10,19 @@ use Rattle.nova_order.specs.Blocks.{BlockList, IsOrder, turns}
 use Rattle.nova_order.specs.declared.block.Block.{Block}
 use Rattle.law_alike.specs.Alike.{IsAlike}
 use Rattle.nova_search.specs.Merged.{HasOne, IsOne}
-use Rattle.nova_search.specs.Searches.{AreAll, AreAllWithin, AreLinked, AreNearest, AreOfOwnTurns, AreProcessors, IsBefore, IsFirst, IsFirstAt, IsReached, IsWay, state_at, state_of, states_of}
+use Rattle.nova_search.specs.Searches.{AreAll, AreAllWithin, AreLinked, AreNearest, AreOfOwnTurns, AreProcessors, GoesBeyond, IsBefore, IsFirst, IsFirstAt, IsReached, IsWay, state_at, state_of, states_of}
 use Rattle.nova_search.specs.declared.exploring.Explored.{Explored}
 use Rattle.nova_search.specs.declared.found.Found.{Found}
 use Rattle.nova_search.specs.declared.merging.Merging.{Merging}
 use Rattle.nova_search.specs.declared.merging.Merging.TheVariants.{Alike, Same}
+use Rattle.nova_compare.proofs.Places.{place}
 use Rattle.nova_search.proofs.Growth.{any_default}
-use Rattle.nova_asking.specs.Answers.{AreCounted, AreCounts, AreEnds, AreNot, AreSeen, EndsSo, IsAbsent, IsCovered, IsEndBy, IsFoundBy, IsNever, IsNeverBy, IsNeverThere, IsReachedWithin, IsShort, IsShortest, IsSometimeThere, IsWitness, extent_of, outcomes}
+use Rattle.nova_asking.specs.Answers.{AreCounted, AreCounts, AreEnds, AreEqual, AreNot, AreSeen, EndsSo, IsAbsent, IsCovered, IsEndBy, IsFoundBy, IsNever, IsNeverBy, IsNeverThere, IsReachedWithin, IsShort, IsShortest, IsSometimeThere, IsWitness, extent_of, outcomes}
 use Rattle.nova_asking.specs.Outcomes.{outcome}
 use Rattle.nova_asking.specs.Questions.{ahead, has_context, is_so, named}
 use Rattle.nova_asking.specs.Searched.{AreFew, AreFrom, BeginsIn, HaveOutcomes, IsMissing, IsPresent, IsSearch, unless_at}
 use Rattle.nova_asking.specs.declared.extent.Extent.{Extent}
-use Rattle.nova_asking.specs.declared.extent.Extent.TheVariants.{Cut}
+use Rattle.nova_asking.specs.declared.extent.Extent.TheVariants.{Within, Cut}
 use Rattle.nova_asking.specs.declared.extent.Extent.TheVariants as extents
 use Rattle.nova_asking.specs.declared.question.Question.{Question}
 use Rattle.nova_asking.specs.declared.ends.End.{End}
@@ -58,6 +59,7 @@ module _ (known : AreKnown) (m : Merging) where
     within = λ over. record { each = λ order are few. has_alike (states_of e.found.items) (run k order) ((search.within over).each order are few) };
     all = λ over whole. record { each = λ order are. has_alike (states_of e.found.items) (run k order) ((search.all over whole).each order are) };
     more = search.more;
+    beyond = search.beyond;
     first = search.first;
     linked = search.linked;
     own = search.own;
@@ -105,6 +107,25 @@ not_over true true is = absurd (cc)
 not_over true false is = absurd (cc)
 not_over false is_whole is = refl
 
+-- where it is within the limit, it isn't whole
+not_whole : (is_over is_whole : Bool) → extent_of is_over is_whole ≡ Within → is_whole ≡ false
+not_whole true true is = absurd (cc)
+not_whole true false is = refl
+not_whole false is_whole is = absurd (cc)
+
+-- runs that go on beyond a limit go on beyond a nearer one
+nearer_beyond : (k : KernelState) (limit reach : ℕ) → limit ≤ reach → GoesBeyond k reach → GoesBeyond k limit
+nearer_beyond k limit reach far beyond = record { order = beyond.order; way = beyond.way; turns = by_turns beyond.turns }
+  where
+    by_turns : (reach < k.turns + length beyond.order) ⊎ ((reach ≡ k.turns + length beyond.order) × (is_quiet (run k beyond.order) ≡ false)) →
+        (limit < k.turns + length beyond.order) ⊎ ((limit ≡ k.turns + length beyond.order) × (is_quiet (run k beyond.order) ≡ false))
+    by_turns (inl more) = inl (omega (arith, more, far))
+    by_turns (inr (same, on)) = by_place (place limit reach (omega (arith, far)))
+      where
+        by_place : (limit < reach) ⊎ (limit ≡ reach) → (limit < k.turns + length beyond.order) ⊎ ((limit ≡ k.turns + length beyond.order) × (is_quiet (run k beyond.order) ≡ false))
+        by_place (inl less) = inl (omega (arith, less, same))
+        by_place (inr its) = inr (its ∙ same, on)
+
 -- a search for nothing has no goal
 pub no_goal : (states : List KernelState) (o : Option ℕ) → IsFirst (λ (s : KernelState). false) states o → (d : KernelState) → o ≡ None
 no_goal states (Some place) is d = let so : false ≡ true = is.passes d in absurd (cc)
@@ -126,6 +147,9 @@ module _ (m : Merging) (test : KernelState → Bool) (k : KernelState) (limit re
 
   pub more_where_cut : (extent : Extent) → e.goal ≡ None → extent ≡ extent_of e.is_over e.is_whole → extent ≡ Cut → most < length e.found.items
   more_where_cut extent none is cut = search.more none (not_over e.is_over e.is_whole (sym is ∙ cut))
+
+  pub beyond_where_within : (extent : Extent) → extent ≡ extent_of e.is_over e.is_whole → extent ≡ Within → GoesBeyond k limit
+  beyond_where_within extent is within = nearer_beyond k limit reach far (search.beyond (not_whole e.is_over e.is_whole (sym is ∙ within)))
 
 pub ways_if : {E : Type 0} (found : List Found) (place : ℕ) (path : List ℕ) (r : Result BlockList E) → IfOk r (λ (order : BlockList). turns order.blocks ≡ path) →
     ((d : KernelState) → IsWay (state_at found 0 d) (state_at found place d) path) →
@@ -189,10 +213,10 @@ end_by k limit found place order text as_quiet as_outcome less from ways quiet s
 pub searched : (m : Merging) (test : KernelState → Bool) (k : KernelState) (limit most : ℕ) (e : Explored) → e.tells_ticks ≡ false → All (IsReached k) (states_of e.found.items) →
     AreNearest m k (states_of e.found.items) → (e.tells_ticks ≡ false → IsFirst test (states_of e.found.items) e.goal) →
     (e.is_over ≡ true → AreAllWithin m k limit (states_of e.found.items)) → (e.is_over ≡ true → e.is_whole ≡ true → AreAll m k (states_of e.found.items)) →
-    (e.tells_ticks ≡ false → e.goal ≡ None → e.is_over ≡ false → most < length e.found.items) → BeginsIn k e.found.items → AreLinked e.found.items → AreOfOwnTurns e.found.items →
+    (e.tells_ticks ≡ false → e.goal ≡ None → e.is_over ≡ false → most < length e.found.items) → (e.is_whole ≡ false → GoesBeyond k limit) → BeginsIn k e.found.items → AreLinked e.found.items → AreOfOwnTurns e.found.items →
     AreFew limit e.found.items → IsSearch m test k limit most e
-searched m test k limit most e told reached nearest goal within all more first linked own few =
-    record { reached = reached; nearest = nearest; goal = goal told; within = within; all = all; more = more told; first = first; linked = linked; own = own; few = few }
+searched m test k limit most e told reached nearest goal within all more beyond first linked own few =
+    record { reached = reached; nearest = nearest; goal = goal told; within = within; all = all; more = more told; beyond = beyond; first = first; linked = linked; own = own; few = few }
 
 -- of an execution context that a question names
 sometime : (k : KernelState) (limit : ℕ) (found : List Found) (ec : ℕ) → All (IsReached k) (states_of found) → BeginsIn k found → AreFew limit found →
@@ -220,16 +244,16 @@ absent_by known m q k limit reach found extent (Some ec) same reached first few 
 absent_by known m q k limit reach found extent None same reached first few along present =
     λ ec is. subst (λ (n : ℕ). IsSometimeThere ec k n) same (sometime k reach found ec reached first few (present ec is))
 
-covered_further : (extent : Extent) (k : KernelState) (limit reach : ℕ) (order : List ℕ) → limit ≤ reach → IsCovered extent k limit order → IsCovered extent k reach order
+pub covered_further : (extent : Extent) (k : KernelState) (limit reach : ℕ) (order : List ℕ) → limit ≤ reach → IsCovered extent k limit order → IsCovered extent k reach order
 covered_further extents.All k limit reach order far are = are
 covered_further extents.Within k limit reach order far are = (are.0, (let few = are.1 in omega (arith, few, far)))
 covered_further extents.Cut k limit reach order far are = absurd are
 
 pub never_by : (known : AreKnown) (m : Merging) (test : KernelState → Bool) (q : Question) (k : KernelState) (limit reach most : ℕ) (e : Explored) (found : List Found) (extent : Extent)
     (states : ℕ) (absent : Option ℕ) → IsSearch m test k reach most e → reach ≡ limit + ahead q → found ≡ e.found.items → IsNever q k limit extent →
-    GoAlong m extent k reach (states_of e.found.items) → (extent ≡ Cut → most < length e.found.items) → states ≡ length found → IsMissing q (states_of found) absent →
-    AreNot q e.found.items → IsNeverBy q k limit most extent states absent
-never_by known m test q k limit reach most e found extent states absent search far same never along more many missing none = record {
+    GoAlong m extent k reach (states_of e.found.items) → (extent ≡ Cut → most < length e.found.items) → (extent ≡ Within → GoesBeyond k limit) → states ≡ length found →
+    IsMissing q (states_of found) absent → AreNot q e.found.items → AreEqual q extent k limit e.found.items → IsNeverBy q k limit most extent states absent
+never_by known m test q k limit reach most e found extent states absent search far same never along more beyond many missing none equal = record {
   never = never;
   count = record {
     found = e.found.items;
@@ -237,8 +261,10 @@ never_by known m test q k limit reach most e found extent states absent search f
     there = λ order are. has_alike known m (states_of e.found.items) (run k order) (along order (covered_further extent k limit reach order (omega (arith, far)) are));
     number = sym (many ∙ ap length same);
     more = λ cut. subst (λ (n : ℕ). most < n) (sym (many ∙ ap length same)) (more cut);
+    beyond = beyond;
   };
   none = none;
+  equal = equal;
   absent = absent_by known m q k limit reach e.found.items extent absent far search.reached search.first search.few along
       (subst (λ (l : List Found). IsMissing q (states_of l) absent) same missing);
 }
@@ -284,14 +310,15 @@ goal_there test found None is = tt
 -- and of each end
 pub counts : (known : AreKnown) (test : KernelState → Bool) (k : KernelState) (limit most : ℕ) (e : Explored) (found : List Found) (extent : Extent) (ends : List End) →
     IsSearch Alike test k limit most e → found ≡ e.found.items → GoAlong Alike extent k limit (states_of e.found.items) → (extent ≡ Cut → most < length e.found.items) →
-    AreCounted (states_of found) ends → HaveOutcomes (states_of found) (outcomes ends) → AreCounts k limit most extent (length found) ends
-counts known test k limit most e found extent ends search same along more are have = record {
+    (extent ≡ Within → GoesBeyond k limit) → AreCounted (states_of found) ends → HaveOutcomes (states_of found) (outcomes ends) → AreCounts k limit most extent (length found) ends
+counts known test k limit most e found extent ends search same along more beyond are have = record {
   all = record {
     found = e.found.items;
     seen = seen_in Alike test k limit limit most e search (omega arith) known;
     there = along;
     number = ap length (sym same);
     more = λ cut. subst (λ (l : List Found). most < length l) (sym same) (more cut);
+    beyond = beyond;
   };
   each = subst (λ (l : List Found). AreCounted (states_of l) ends) same are;
   listed = (subst (λ (l : List Found). HaveOutcomes (states_of l) (outcomes ends)) same have).each;

@@ -8,7 +8,7 @@ use Rattle.nova_model.specs.State.{KernelState}
 use Rattle.nova_order.specs.Blocks.{IsOrder, turns}
 use Rattle.nova_order.specs.declared.block.Block.{Block}
 use Rattle.nova_search.specs.Merged.{HasOne}
-use Rattle.nova_search.specs.Searches.{AreLinked, AreNearest, AreOfOwnTurns, AreProcessors, IsReached, IsWay, states_of}
+use Rattle.nova_search.specs.Searches.{AreLinked, AreNearest, AreOfOwnTurns, AreProcessors, GoesBeyond, IsReached, IsWay, states_of}
 use Rattle.nova_search.specs.declared.found.Found.{Found as FoundState}
 use Rattle.nova_search.specs.declared.merging.Merging.TheVariants.{Alike}
 use Rattle.nova_asking.specs.Outcomes.{outcome}
@@ -19,6 +19,7 @@ use Rattle.nova_asking.specs.declared.ends.End.{End}
 use Rattle.nova_asking.specs.declared.extent.Extent.{Extent}
 use Rattle.nova_asking.specs.declared.extent.Extent.TheVariants.{All, Within, Cut}
 use Rattle.nova_asking.specs.declared.question.Question.{Question}
+use Rattle.nova_asking.specs.declared.question.Question.TheVariants.{Hangs}
 
 -- how far a search went: it gave each order, or each one within the limit, or neither
 abbrev pub extent_of : Bool → Bool → Extent
@@ -71,13 +72,15 @@ pub record AreFound (k : KernelState) (limit : ℕ) (order : List ℕ) (count : 
   pub there : Contains (states_of found) (run k order)
   pub number : length found ≡ count
 
--- so many were, within a limit, with one that is alike to that after each order within another that was gone along; they are more than may be expanded where the search is cut
+-- so many were, within a limit, with one that is alike to that after each order within another that was gone along; they are more than may be expanded where the search is cut, and runs go
+-- on beyond the other limit where it is within that
 pub record IsCount (k : KernelState) (reach limit most : ℕ) (extent : Extent) (count : ℕ) : Type 0 where
   pub found : List FoundState
   pub seen : AreSeen k reach found
   pub there : (order : List ℕ) → IsCovered extent k limit order → HasOne Alike (states_of found) (run k order)
   pub number : length found ≡ count
   pub more : extent ≡ Cut → most < count
+  pub beyond : extent ≡ Within → GoesBeyond k limit
 
 -- no order that was gone along leads to a state with this execution context; or one within the limit does, without idle turns
 pub record IsNeverThere (ec : ℕ) (k : KernelState) (limit : ℕ) (extent : Extent) : Type 0 where
@@ -104,11 +107,17 @@ pub record IsFoundBy (q : Question) (k : KernelState) (limit : ℕ) (blocks : Li
 abbrev pub AreNot : Question → List FoundState → Type 0
 AreNot q found = IsOfState q → (s : KernelState) → Contains (states_of found) s → is_so q s ≡ false
 
+-- for what hangs equal states alone count as one: that after each order that was gone along is itself among those that were found
+abbrev pub AreEqual : Question → Extent → KernelState → ℕ → List FoundState → Type 0
+AreEqual (Hangs turns a) extent k limit found = (order : List ℕ) → IsCovered extent k limit order → Contains (states_of found) (run k order)
+AreEqual other extent k limit found = Unit {0}
+
 -- none that was gone along does
 pub record IsNeverBy (q : Question) (k : KernelState) (limit most : ℕ) (extent : Extent) (states : ℕ) (ec : Option ℕ) : Type 0 where
   pub never : IsNever q k limit extent
   pub count : IsCount k (limit + ahead q) limit most extent states
   pub none : AreNot q count.found
+  pub equal : AreEqual q extent k limit count.found
   pub absent : IsAbsent q k limit extent ec
 
 abbrev pub IsAnswer : Question → KernelState → ℕ → ℕ → Answer → Type 0

@@ -3,7 +3,7 @@ use Rattle.std.specs.Prelude.{◌≡◌, ℕ, ◌+◌, ◌<◌, ◌≤◌, Bool,
 use Rattle.std.specs.List.{AllByRecursion}
 use Rattle.nova_model.specs.Choice.{is_quiet}
 use Rattle.nova_model.specs.State.{KernelState}
-use Rattle.nova_search.specs.Searches.{AreAll, AreAllWithin, AreLinked, AreNearest, AreOfOwnTurns, IsFirst, IsReached, state_at, states_of}
+use Rattle.nova_search.specs.Searches.{AreAll, AreAllWithin, AreLinked, AreNearest, AreOfOwnTurns, GoesBeyond, IsFirst, IsReached, state_at, states_of}
 use Rattle.nova_search.specs.declared.exploring.Explored.{Explored}
 use Rattle.nova_search.specs.declared.found.Found.{Found}
 use Rattle.nova_search.specs.declared.merging.Merging.{Merging}
@@ -39,6 +39,7 @@ pub record IsSearch (m : Merging) (test : KernelState → Bool) (k : KernelState
   pub within : e.is_over ≡ true → AreAllWithin m k limit (states_of e.found.items)
   pub all : e.is_over ≡ true → e.is_whole ≡ true → AreAll m k (states_of e.found.items)
   pub more : e.goal ≡ None → e.is_over ≡ false → most < length e.found.items
+  pub beyond : e.is_whole ≡ false → GoesBeyond k limit
   pub first : BeginsIn k e.found.items
   pub linked : AreLinked e.found.items
   pub own : AreOfOwnTurns e.found.items

@@ -5,7 +5,6 @@ use Rattle.std.specs.Bool.{OnTrue}
 use Rattle.std.proofs.lemmas.Option.{slice_get-get_or}
 use Rattle.nova_objects.specs.declared.object.Object.{Object}
 use Rattle.nova_objects.specs.declared.object.Object.TheVariants.{Pd, Sc}
-use Rattle.law_alike.specs.Alike.{ArePeers}
 use Rattle.law_sameness.specs.States.{IsInStep, stamp_at}
 use Rattle.nova_compare.specs.Peers.{are_peers, is_schedule}
 

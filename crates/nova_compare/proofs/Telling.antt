@@ -1,6 +1,6 @@
 -- Turns that tell no ticks, by who acts and what x17 is.
-use Rattle.std.proofs.Common.{◌≡◌, ◌∙◌, ℕ, refl, ap, sym, subst}
-use Rattle.std.specs.Prelude.{Bool, true, false, ◌==◌, Option, Some, None, IfSome, option_map}
+use Rattle.std.proofs.Common.{◌≡◌, ◌∙◌, ℕ, ap, sym, subst}
+use Rattle.std.specs.Prelude.{false, ◌==◌, Option, Some, None, IfSome, option_map}
 use Rattle.rv_model.specs.Registers.{reg}
 use Rattle.nova_calls.specs.declared.numbers.TheConstants.{SC_CTRL}
 use Rattle.nova_model.specs.Choice.{Candidate, choice, next_to_act, unless_due}
@@ -22,21 +22,21 @@ pub nobody_asks : ((k : KernelState) (ec : ℕ) → (reg (context k ec).regs 17 
     (k : KernelState) (ec : ℕ) → context_at k ec ≡ None → tells_ticks (deed k ec) ≡ false
 nobody_asks law k ec is = law k ec (number_of k ec None is)
 
--- of nobody, and of whom that is chosen, unless something is due
-pub nobody_tells : (k : KernelState) (cpu : ℕ) → option_map (λ (c : Candidate). c.actor) (choice k cpu) ≡ None → TellsNoTicks k cpu
+-- where it is so of whom that is chosen, unless something is due
+abbrev TellsNone : KernelState → Option ℕ → Type 0
+TellsNone k o = IfSome o (λ (ec : ℕ). tells_ticks (deed k ec) ≡ false)
+
+chosen_tells_none : (k : KernelState) (cpu : ℕ) (o : Option ℕ) → option_map (λ (c : Candidate). c.actor) (choice k cpu) ≡ o → TellsNone k o → TellsNoTicks k cpu
 unfolding next_to_act
-nobody_tells k cpu none = by_choice (due_on k.times cpu) (choice k cpu) none
+chosen_tells_none k cpu o acts none = by_choice (due_on k.times cpu) (choice k cpu) (subst (TellsNone k) (sym acts) none)
   where
-    by_choice : (o : Option Due) (c : Option Candidate) → option_map (λ (x : Candidate). x.actor) c ≡ None → IfSome (unless_due o c) (λ (x : Candidate). tells_ticks (deed k x.actor) ≡ false)
+    by_choice : (d : Option Due) (c : Option Candidate) → TellsNone k (option_map (λ (x : Candidate). x.actor) c) → IfSome (unless_due d c) (λ (x : Candidate). tells_ticks (deed k x.actor) ≡ false)
     by_choice (Some what) c is = tt
     by_choice None None is = tt
-    by_choice None (Some x) is = absurd (cc)
+    by_choice None (Some x) is = is
+
+pub nobody_tells : (k : KernelState) (cpu : ℕ) → option_map (λ (c : Candidate). c.actor) (choice k cpu) ≡ None → TellsNoTicks k cpu
+nobody_tells k cpu none = chosen_tells_none k cpu None none tt
 
 pub actor_tells_none : (k : KernelState) (cpu ec : ℕ) → option_map (λ (c : Candidate). c.actor) (choice k cpu) ≡ Some ec → tells_ticks (deed k ec) ≡ false → TellsNoTicks k cpu
-unfolding next_to_act
-actor_tells_none k cpu ec acts none = by_choice (due_on k.times cpu) (choice k cpu) acts
-  where
-    by_choice : (o : Option Due) (c : Option Candidate) → option_map (λ (x : Candidate). x.actor) c ≡ Some ec → IfSome (unless_due o c) (λ (x : Candidate). tells_ticks (deed k x.actor) ≡ false)
-    by_choice (Some what) c is = tt
-    by_choice None None is = tt
-    by_choice None (Some x) is = let same : x.actor ≡ ec = cc in ap (λ (n : ℕ). tells_ticks (deed k n)) same ∙ none
+actor_tells_none k cpu ec acts none = chosen_tells_none k cpu (Some ec) acts none

@@ -16,9 +16,9 @@ use Rattle.nova_explore.specs.declared.verdict.Verdict.{Verdict}
 module _ (q : Question) (k : KernelState) (cpus limit most : ℕ) (text : List ℕ) where
   told : (a : Answer) → IsAnswer q k limit most a → text ≡ answer_text cpus limit a → IsAnswered q k cpus limit most (verdict_of a) text
   told (answer.Found order states) by is = record { blocks = order.blocks; order = by.order; leads = by.leads; states = states; count = by.found; tells = is }
-  told (answer.Never All states absent) by is = record { never = by.never; states = states; count = by.count; none = by.none; named = absent; absent = by.absent; tells = is }
-  told (answer.Never Within states absent) by is = record { never = by.never; states = states; count = by.count; none = by.none; named = absent; absent = by.absent; tells = is }
-  told (answer.Never Cut states absent) by is = record { never = by.never; states = states; count = by.count; none = by.none; named = absent; absent = by.absent; tells = is }
+  told (answer.Never All states absent) by is = record { never = by.never; states = states; count = by.count; none = by.none; equal = by.equal; named = absent; absent = by.absent; tells = is }
+  told (answer.Never Within states absent) by is = record { never = by.never; states = states; count = by.count; none = by.none; equal = by.equal; named = absent; absent = by.absent; tells = is }
+  told (answer.Never Cut states absent) by is = record { never = by.never; states = states; count = by.count; none = by.none; equal = by.equal; named = absent; absent = by.absent; tells = is }
 
   pub answered : (n m : ℕ) (a : Answer) (v : Verdict) → n ≡ limit → m ≡ most → IsAnswer q k n m a → text ≡ answer_text cpus limit a → v ≡ verdict_of a →
       IsAnswered q k cpus limit most v text

@@ -5,7 +5,7 @@ use Rattle.nova_model.specs.State.{KernelState}
 use Rattle.nova_order.specs.Blocks.{IsOrder, turns}
 use Rattle.nova_order.specs.declared.block.Block.{Block}
 use Rattle.nova_scenario.specs.declared.scenario.Scenario.{Scenario}
-use Rattle.nova_asking.specs.Answers.{AreCounts, AreDistinct, AreEnds, AreFound, AreNot, IsAbsent, IsCount, IsEnd, IsNever, IsWitness, outcomes}
+use Rattle.nova_asking.specs.Answers.{AreCounts, AreDistinct, AreEnds, AreEqual, AreFound, AreNot, IsAbsent, IsCount, IsEnd, IsNever, IsWitness, outcomes}
 use Rattle.nova_asking.specs.Questions.{ahead}
 use Rattle.nova_asking.specs.declared.answer.Answer.{Answer}
 use Rattle.nova_asking.specs.declared.answer.Answer.TheVariants as answer
@@ -24,6 +24,7 @@ pub record IsToldNever (q : Question) (k : KernelState) (cpus limit most : ℕ) 
   pub states : ℕ
   pub count : IsCount k (limit + ahead q) limit most extent states
   pub none : AreNot q count.found
+  pub equal : AreEqual q extent k limit count.found
   pub named : Option ℕ
   pub absent : IsAbsent q k limit extent named
   pub tells : text ≡ never_text cpus limit extent states named

@@ -73,15 +73,16 @@ fn serve<D: Depot, O: Sink>(alloc: Global, request: &Request, depot: &mut D, out
 /// - `Found`: an order of at most N turns, none of them idle, leads there, and none of fewer turns does. Its lines are told.
 /// - `All`: no order of the scenario's processors does, of whatever length. For `ends`: each order that ends the run does so with one of the outcomes
 ///   that are told, each with an order of at most N turns, none of them idle, that ends so; none of fewer turns does.
-/// - `Within`: the same of orders of at most N turns.
+/// - `Within`: the same of orders of at most N turns. An order goes on beyond them: one without idle turns takes more, or N, and a processor has a turn to take
+///   after it.
 /// - `Cut`: more states were found than may be expanded, and nothing is said of orders but of those that are told.
 ///
 /// Where the question names an execution context, and none of the orders of `All` or `Within`, for `hangs` of TURNS more, leads to a state with it, the text
 /// says so.
 ///
 /// The text also has how many states were found. To each an order of at most N turns leads, for `hangs` of TURNS more, and to each but the first by a turn
-/// in one of them after which no other was found; each order that was gone along leads to one that is alike to one of them. States that are not seen to be
-/// alike count apart. For each outcome it has in how many of them a run ends so.
+/// in one of them after which no other was found; each order that was gone along leads to one that is alike to one of them, for `hangs` to one of
+/// them. States that are not seen to be alike count apart. For each outcome it has in how many of them a run ends so.
 ///
 /// Other answers, each with its cause: Usage exactly where the words are no request. ReadFault only where the count of failed fetches of the name rose.
 /// TooLong where more bytes came than may, Scenario where those that came are none, with the first line at fault, and Absent where the scenario has no

@@ -3,10 +3,11 @@ use Rattle.std.proofs.Common.{◌≡◌, ◌⊎◌, ℕ, ◌+◌, ◌<◌, ◌�
 use Rattle.std.specs.Prelude.{Bool, true, false, Contains, None, nat_le, nat_lt, slice_index_or}
 use Rattle.std.specs.Bool.{OnTrue}
 use Rattle.std.proofs.lemmas.List.{length-map}
+use Rattle.std.proofs.lemmas.List.Elements.{All-contains}
 use Rattle.nova_model.specs.Choice.{is_quiet}
 use Rattle.nova_model.specs.State.{KernelState}
 use Rattle.nova_compare.proofs.Places.{place}
-use Rattle.nova_model.specs.Runs.{after}
+use Rattle.nova_model.specs.Runs.{after, run}
 use Rattle.nova_search.specs.declared.edges.Edge.{Edge}
 use Rattle.nova_search.specs.declared.exploring.Course.{Course}
 use Rattle.nova_search.specs.declared.exploring.Passage.{Passage}
@@ -18,10 +19,10 @@ use Rattle.nova_search.specs.Edges.{AreAhead, AreTried, AreTurnsDrawn, AreUpTo, 
 use Rattle.nova_search.specs.Going.{AreDrawn, IsEnded, IsGoing, IsSeen}
 use Rattle.nova_search.specs.Merged.{IsApt, IsOne}
 use Rattle.nova_search.specs.Reductions.{IsStill}
-use Rattle.nova_search.specs.Searches.{AreLinked, AreOfTurnsBefore, AreVisited, IsFirst, IsFirstAt, state_at, state_of, states_of}
+use Rattle.nova_search.specs.Searches.{AreLinked, AreOfTurnsBefore, AreVisited, GoesBeyond, IsFirst, IsFirstAt, IsReached, IsWay, state_at, state_of, states_of}
 use Rattle.nova_search.proofs.Closed.{all_led, all_within}
 use Rattle.nova_search.proofs.Drawn.{all_tried_on}
-use Rattle.nova_search.proofs.Growth.{cpus_here, left_here, states_many, still_at, underway_first, underway_here}
+use Rattle.nova_search.proofs.Growth.{cpus_here, holds_here, left_here, states_many, still_at, underway_first, underway_here}
 use Rattle.nova_search.proofs.Nearest.{by_turns_first, by_turns_left, by_turns_on, most_of, nearest}
 use Rattle.nova_search.proofs.Own.{own_first, own_next}
 
@@ -34,6 +35,7 @@ going_first m test k limit found edges only none = record {
   linked = record { each = λ i d first less. absurd (omega (arith, one, first, less)) };
   turns = own_first found k only;
   none = λ i d less. absurd (omega (arith, less));
+  beyond = λ not. absurd (cc);
   drawn = λ _. record {
     are = record { each = λ i d less. absurd (omega (arith, less, no_edges)); rising = λ i j d ordered less. absurd (omega (arith, less, no_edges)) };
     below = λ i d less. absurd (omega (arith, less, no_edges));
@@ -99,6 +101,7 @@ module _ (m : Merging) (test : KernelState → Bool) (k : KernelState) (limit : 
     turns = own_next ys i s.cpus own;
     none = λ j d is. none_at j d (place j i is);
     drawn = λ is. drawn_to (going.drawn is) (drawn is);
+    beyond = going.beyond;
   }
 
 pub none_so_far : (test : KernelState → Bool) (xs : List KernelState) (i : ℕ) → ((j : ℕ) (d : KernelState) → j < i → test (slice_index_or xs j d) ≡ false) →
@@ -109,11 +112,24 @@ none_so_far test xs i none not j d less = by_place (place j i less)
     by_place (inl old) = none j d old
     by_place (inr last) = subst (λ (n : ℕ). test (slice_index_or xs n d) ≡ false) (sym last) (not d)
 
+-- some processor has a turn to take in a state that has taken as many turns as the limit allows, or more
+goes_beyond : (k : KernelState) (limit : ℕ) (s : KernelState) → IsReached k s → limit ≤ s.turns → is_quiet s ≡ false → GoesBeyond k limit
+goes_beyond k limit s r many not = record {
+  order = r.order;
+  way = subst (λ (x : KernelState). IsWay k x r.order) r.way.state r.way;
+  turns = by_place (place limit (k.turns + length r.order) (let turns = r.way.turns in omega (arith, turns, many)));
+}
+  where
+    by_place : (limit < k.turns + length r.order) ⊎ (limit ≡ k.turns + length r.order) →
+        (limit < k.turns + length r.order) ⊎ ((limit ≡ k.turns + length r.order) × (is_quiet (run k r.order) ≡ false))
+    by_place (inl more) = inl more
+    by_place (inr same) = inr (same, subst (λ (x : KernelState). is_quiet x ≡ false) r.way.state not)
+
 -- the state at a place is left as it is
 pub going_left : (m : Merging) (test : KernelState → Bool) (k : KernelState) (limit : ℕ) (xs : List Found) (es : List Edge) (i : ℕ) (s : KernelState) (w r : Bool) →
-    IsGoing m test k limit xs es i w → i < length xs → ((d : KernelState) → state_at xs i d ≡ s) → test s ≡ false → limit ≤ s.turns →
+    IsGoing m test k limit xs es i w → i < length xs → ((d : KernelState) → state_at xs i d ≡ s) → test s ≡ false → limit ≤ s.turns → (w ≡ true → r ≡ is_quiet s) →
     OnTrue r ((w ≡ true) × ((t : KernelState) → IsOne m s t → IsStill s.cpus t)) → IsGoing m test k limit xs es (i + 1) r
-going_left m test k limit xs es i s w r going less here not many stays = record {
+going_left m test k limit xs es i s w r going less here not many quiet stays = record {
   way = left_here m k limit xs i s w r going.way less many here stays;
   by_turns = by_turns_left limit (states_of xs) i going.by_turns;
   first = going.first;
@@ -121,8 +137,13 @@ going_left m test k limit xs es i s w r going less here not many stays = record 
   turns = own_next xs i 0 going.turns;
   none = none_so_far test (states_of xs) i going.none (λ d. ap test (here d) ∙ not);
   drawn = λ is. drawn_to (going.drawn is);
+  beyond = beyond_by w refl;
 }
   where
+    beyond_by : (t : Bool) → w ≡ t → r ≡ false → GoesBeyond k limit
+    beyond_by true whole cut = goes_beyond k limit s (All-contains (IsReached k) (states_of xs) s going.way.reached (holds_here xs i s less here)) many (sym (quiet whole) ∙ cut)
+    beyond_by false whole cut = going.beyond whole
+
     tried_at : AreDrawn k limit xs es i → (j : ℕ) (d : KernelState) → (j < i) ⊎ (j ≡ i) → (state_at xs j d).turns < limit → AreTried k.cpus (states_of xs) es j
     tried_at before j d (inl old) short = before.tried j d old short
     tried_at before j d (inr last) short =
@@ -180,6 +201,7 @@ module _ (m : Merging) (test : KernelState → Bool) (k : KernelState) (limit mo
     goal = first;
     within = λ is. all_within m goes_on k limit (states_of xs) i w going.way one apt (states_many xs i (over is));
     all = λ is all. all_led m goes_on k limit (states_of xs) i w going.way one apt (states_many xs i (over is)) (sym whole ∙ all);
+    beyond = λ not. going.beyond (sym whole ∙ not);
     more = more;
     same = same;
     first = going.first;

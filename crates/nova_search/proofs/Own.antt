@@ -1,11 +1,11 @@
 -- States that were found each after a turn of its own.
-use Rattle.std.proofs.Common.{◌≡◌, ◌⊎◌, ◌∙◌, ℕ, ◌+◌, ◌<◌, ◌≤◌, List, [], ◌∷◌, ◌++◌, length, ap, sym, subst, arith, inl, inr}
+use Rattle.std.proofs.Common.{◌≡◌, ◌⊎◌, ◌∙◌, ℕ, ◌+◌, ◌<◌, List, [], ◌∷◌, ◌++◌, length, ap, sym, subst, arith, inl, inr}
 use Rattle.std.specs.Prelude.{slice_index_or}
 use Rattle.std.proofs.lemmas.List.{length-append, length-map}
 use Rattle.nova_model.specs.State.{KernelState}
 use Rattle.nova_compare.proofs.Places.{place}
 use Rattle.nova_search.specs.declared.found.Found.{Found}
-use Rattle.nova_search.specs.Searches.{AreOfOwnTurns, AreOfTurnsBefore, IsMore, state_of, states_of}
+use Rattle.nova_search.specs.Searches.{AreOfTurnsBefore, IsMore, state_of, states_of}
 use Rattle.nova_search.proofs.Growth.{at_front}
 use Rattle.nova_search.proofs.Links.{at_end}
 

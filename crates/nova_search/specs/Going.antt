@@ -1,5 +1,5 @@
 -- A search on its way: how far it has come, and by which turns; and where it ends.
-use Rattle.std.specs.Prelude.{◌≡◌, ℕ, ◌+◌, ◌<◌, ◌≤◌, Bool, true, false, List, length, slice_index_or, None, All}
+use Rattle.std.specs.Prelude.{◌≡◌, ℕ, ◌+◌, ◌<◌, ◌≤◌, Bool, true, false, List, length, slice_index_or, Some, None, All}
 use Rattle.nova_model.specs.State.{KernelState}
 use Rattle.nova_search.specs.declared.edges.Edge.{Edge}
 use Rattle.nova_search.specs.declared.found.Found.{Found}
@@ -9,7 +9,7 @@ use Rattle.nova_search.specs.declared.exploring.Passage.TheVariants.{Met, Passed
 use Rattle.nova_search.specs.declared.merging.Merging.{Merging}
 use Rattle.nova_search.specs.declared.merging.Merging.TheVariants.{Alike, Same}
 use Rattle.nova_search.specs.Edges.{AreAhead, AreEdges, AreTried}
-use Rattle.nova_search.specs.Searches.{AreAll, AreAllWithin, AreByTurns, AreLinked, AreNearest, AreOfOwnTurns, AreOfTurnsBefore, IsFirst, IsReached, IsUnderWay, state_at, states_of}
+use Rattle.nova_search.specs.Searches.{AreAll, AreAllWithin, AreByTurns, AreLinked, AreNearest, AreOfOwnTurns, AreOfTurnsBefore, GoesBeyond, IsFirst, IsReached, IsUnderWay, state_at, states_of}
 
 -- Edges lead from the states at places before one; where the limit allows it the turns of these were tried.
 pub record AreDrawn (k : KernelState) (limit : ℕ) (found : List Found) (edges : List Edge) (place : ℕ) : Type 0 where
@@ -26,6 +26,7 @@ pub record IsGoing (m : Merging) (test : KernelState → Bool) (k : KernelState)
   pub turns : AreOfTurnsBefore found place 0
   pub none : (i : ℕ) (d : KernelState) → i < place → test (state_at found i d) ≡ false
   pub drawn : m ≡ Same → AreDrawn k limit found edges place
+  pub beyond : is_whole ≡ false → GoesBeyond k limit
 
 -- the state at a place passes the test; or its turns tell ticks, where that matters; or it was gone through, and the search is whole or isn't
 abbrev pub IsSeen : Merging → (KernelState → Bool) → KernelState → ℕ → List Found → List Edge → ℕ → Bool → Passage → Type 0
@@ -34,6 +35,12 @@ IsSeen m test k limit found edges place is_whole Ticks = IsGoing m test k limit 
 IsSeen m test k limit found edges place is_whole Met =
     IsGoing m test k limit found edges place is_whole × ((d : KernelState) → test (state_at found place d) ≡ true) × (place < length found)
 
+-- what a search comes to that ends at a place with what came of the state there: it is over where the last one was passed
+abbrev pub course_of : Passage → Bool → ℕ → Course
+course_of Met is_whole place = record { goal = Some place; is_over = false; is_whole = is_whole; tells_ticks = false }
+course_of Ticks is_whole place = record { goal = None; is_over = false; is_whole = is_whole; tells_ticks = true }
+course_of (Passed stays) is_whole place = record { goal = None; is_over = true; is_whole = stays; tells_ticks = false }
+
 -- what a search came to that has ended
 pub record IsEnded (m : Merging) (test : KernelState → Bool) (k : KernelState) (limit most : ℕ) (found : List Found) (edges : List Edge) (course : Course) : Type 0 where
   pub reached : All (IsReached k) (states_of found)
@@ -41,6 +48,7 @@ pub record IsEnded (m : Merging) (test : KernelState → Bool) (k : KernelState)
   pub goal : course.tells_ticks ≡ false → IsFirst test (states_of found) course.goal
   pub within : course.is_over ≡ true → AreAllWithin m k limit (states_of found)
   pub all : course.is_over ≡ true → course.is_whole ≡ true → AreAll m k (states_of found)
+  pub beyond : course.is_whole ≡ false → GoesBeyond k limit
   pub more : course.tells_ticks ≡ false → course.goal ≡ None → course.is_over ≡ false → most < length found
   pub same : m ≡ Same → course.tells_ticks ≡ false
   pub first : (d : KernelState) → state_at found 0 d ≡ k

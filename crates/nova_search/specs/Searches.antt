@@ -1,6 +1,7 @@
 -- Which states a kernel comes to, in whatever order its processors take their turns, and what a search of them says.
 use Rattle.std.specs.Prelude.{◌≡◌, ◌⊎◌, ℕ, ◌+◌, ◌^◌, ◌<◌, ◌≤◌, Bool, true, false, List, [], ◌∷◌, ◌++◌, drop, length, map, slice_index_or, Option, Some, None, All, Contains}
 use Rattle.std.specs.List.{AllByRecursion}
+use Rattle.nova_model.specs.Choice.{is_quiet}
 use Rattle.nova_model.specs.State.{KernelState}
 use Rattle.nova_model.specs.Runs.{IsFreeOfIdle, after, run}
 use Rattle.nova_compare.specs.Steps.{IsSuccessor}
@@ -24,6 +25,12 @@ pub record IsReached (k s : KernelState) : Type 0 where
   pub order : List ℕ
   pub way : IsWay k s order
   pub cpus : s.cpus ≡ k.cpus
+
+-- runs go on beyond a limit: an order without idle turns takes more turns than it allows; or as many, and some processor has a turn to take after them
+pub record GoesBeyond (k : KernelState) (limit : ℕ) : Type 0 where
+  pub order : List ℕ
+  pub way : IsWay k (run k order) order
+  pub turns : (limit < k.turns + length order) ⊎ ((limit ≡ k.turns + length order) × (is_quiet (run k order) ≡ false))
 
 -- the answer of following an order: a kernel in the state after it, or none where one of its turns is idle, or of a processor that isn't there
 abbrev pub IsEnd : KernelState → List ℕ → Option KernelState → Type 0

@@ -1,11 +1,12 @@
 ghost use Rattle.std.specs.Prelude.{◌≡◌, ◌+◌, ◌^◌, ◌<◌, ◌≤◌, ℕ, true, false, [], ◌∷◌, length, None, All, IfOk, List, OnOk};
 ghost use Rattle.std.specs.Bool.{OnTrue};
+ghost use Rattle.nova_model.specs.Choice.{is_quiet};
 ghost use Rattle.nova_model.specs.State.{KernelState};
 ghost use Rattle.nova_search.specs.Reductions.{IsStill};
 ghost use Rattle.nova_search.specs.Edges.{AreAhead, AreEdges, AreTried};
-ghost use Rattle.nova_search.specs.Going.{IsEnded, IsGoing, IsSeen};
+ghost use Rattle.nova_search.specs.Going.{IsEnded, IsGoing, IsSeen, course_of};
 ghost use Rattle.nova_search.specs.Merged.{IsApt, IsOne};
-ghost use Rattle.nova_search.specs.Searches.{AreAll, AreAllWithin, AreLinked, AreNearest, AreOfOwnTurns, AreOpen, IsFirst, IsReached, state_at, states_of};
+ghost use Rattle.nova_search.specs.Searches.{AreAll, AreAllWithin, AreLinked, AreNearest, AreOfOwnTurns, AreOpen, GoesBeyond, IsFirst, IsReached, state_at, states_of};
 ghost use Rattle.nova_search.specs.declared.merging.Merging.TheVariants.{Same};
 
 use crate::edges::Edge;
@@ -55,7 +56,8 @@ pub(crate) enum Passage {
 
 /// Whether a search that was whole or wasn't is whole where it doesn't expand a state: if no processor has a turn to take in it.
 fn stays_whole(merging: Merging, is_whole: bool, vertex: &Vertex) -> bool
-    ensures { OnTrue result ((is_whole ≡ true) × ((t : KernelState) → IsOne merging vertex.now t → IsStill vertex.now.cpus t)) }
+    ensures quiet { is_whole ≡ true → result ≡ is_quiet vertex.now }
+    ensures still { OnTrue result ((is_whole ≡ true) × ((t : KernelState) → IsOne merging vertex.now t → IsStill vertex.now.cpus t)) }
 {
     states_are_one();
     is_whole && vertex.kernel().quiet()
@@ -159,6 +161,23 @@ fn ended<G: Goal>(
     })
 }
 
+/// What a search comes to that ends at a place with what came of the state there: it is over where the last one was passed.
+fn course_of(passage: Passage, is_whole: bool, place: usize) -> Course
+    ensures { result ≡ course_of passage is_whole place }
+{
+    let (goal, is_over, is_whole, tells_ticks) = match passage {
+        Passage::Met => (Some(place), false, is_whole, false),
+        Passage::Ticks => (None, false, is_whole, true),
+        Passage::Passed(stays) => (None, true, stays, false),
+    };
+    Course {
+        goal,
+        is_over,
+        is_whole,
+        tells_ticks,
+    }
+}
+
 /// Goes through the states that `opening` comes to, from nothing that was found.
 fn go_through<G: Goal>(
     alloc: Global,
@@ -184,12 +203,7 @@ fn go_through<G: Goal>(
     let mut is_whole = true;
     for place in 0..most {
         let Some(vertex) = frontier.take(merging) else {
-            return Ok(Course {
-                goal: None,
-                is_over: true,
-                is_whole,
-                tells_ticks: false,
-            });
+            return Ok(course_of(Passage::Passed(is_whole), is_whole, place));
         };
         let seen = see(
             alloc, opening, merging, &vertex, limit, is_whole, goal, found, frontier, edges, place,
@@ -197,22 +211,8 @@ fn go_through<G: Goal>(
         frontier.let_go(vertex);
         match seen? {
             Passage::Passed(stays) => is_whole = stays,
-            Passage::Ticks => {
-                return Ok(Course {
-                    goal: None,
-                    is_over: false,
-                    is_whole,
-                    tells_ticks: true,
-                });
-            }
-            Passage::Met => {
-                return Ok(Course {
-                    goal: Some(place),
-                    is_over: false,
-                    is_whole,
-                    tells_ticks: false,
-                });
-            }
+            Passage::Ticks => return Ok(course_of(Passage::Ticks, is_whole, place)),
+            Passage::Met => return Ok(course_of(Passage::Met, is_whole, place)),
         }
     }
     ended(alloc, most, is_whole, goal, found, frontier)
@@ -241,6 +241,8 @@ pub fn explore<G: Goal>(
     ensures within { IfOk result (λ s. s.is_over ≡ true → AreAllWithin merging opening.now limit (states_of s.found.items)) }
     // Where none was cut, each order does.
     ensures all { IfOk result (λ s. s.is_over ≡ true → s.is_whole ≡ true → AreAll merging opening.now (states_of s.found.items)) }
+    // Where one was cut, runs go on beyond the limit.
+    ensures beyond { IfOk result (λ s. s.is_whole ≡ false → GoesBeyond opening.now limit) }
     // Without a goal there are more of them than may be expanded, or it is over.
     ensures more { IfOk result (λ s. s.tells_ticks ≡ false → s.goal ≡ None → s.is_over ≡ false → most < length s.found.items) }
     // Where states that are the same are one, it goes on where ticks are told.

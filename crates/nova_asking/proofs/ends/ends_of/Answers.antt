@@ -4,7 +4,7 @@ use Rattle.nova_search.specs.declared.found.Found.{Found}
 use Rattle.nova_search.specs.declared.merging.Merging.TheVariants.{Alike}
 use Rattle.nova_asking.specs.Answers.{outcomes}
 use Rattle.nova_asking.specs.Searched.{AreFrom}
-use Rattle.nova_asking.proofs.Told.{along, counts, more_where_cut, no_goal, told_ends}
+use Rattle.nova_asking.proofs.Told.{along, beyond_where_within, counts, more_where_cut, no_goal, told_ends}
 use Rattle.nova_asking.proofs.ends.ends_of.Goals as goal
 
 pub returns-clause-all : goal.returns-clause-all
@@ -22,6 +22,7 @@ returns-clause-states c = λ k limit most given.
     c.as_slice-found.result.now c.of-extent.result c.in_ok-ends.ends.items given same
     (along Alike (λ _. false) k limit limit most e given (omega arith) c.of-extent.result c.of-extent.ensures)
     (more_where_cut Alike (λ _. false) k limit limit most e given (omega arith) c.of-extent.result (no_goal (states_of e.found.items) e.goal given.goal k) c.of-extent.ensures)
+    (beyond_where_within Alike (λ _. false) k limit limit most e given (omega arith) c.of-extent.result c.of-extent.ensures)
     c.in_ok-ends.ensures.counted c.in_ok-ends.ensures.all
 
 pub returns-clause-each : goal.returns-clause-each

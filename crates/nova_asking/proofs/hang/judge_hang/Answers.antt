@@ -12,7 +12,7 @@ returns c =
     let same : c.from.result ≡ c.args.turns = search rules in
     let given : IsSearch Same (λ _. false) k (c.args.limit + c.from.result) c.args.most e =
     searched Same (λ _. false) k (c.args.limit + c.from.result) c.args.most e (c.in_ok-explored.ensures.same refl) c.in_ok-explored.ensures.reached c.in_ok-explored.ensures.nearest c.in_ok-explored.ensures.goal
-    c.in_ok-explored.ensures.within c.in_ok-explored.ensures.all c.in_ok-explored.ensures.more c.in_ok-explored.ensures.first c.in_ok-explored.ensures.linked
+    c.in_ok-explored.ensures.within c.in_ok-explored.ensures.all c.in_ok-explored.ensures.more c.in_ok-explored.ensures.beyond c.in_ok-explored.ensures.first c.in_ok-explored.ensures.linked
     c.in_ok-explored.ensures.own c.in_ok-explored.ensures.few in
     let drawn : AreDrawn k (c.args.limit + c.from.result) e =
     record { edges = c.in_ok-explored.ensures.edges refl; ahead = c.in_ok-explored.ensures.ahead refl; tried = c.in_ok-explored.ensures.tried refl } in

@@ -1,4 +1,4 @@
-use Rattle.std.proofs.Common.{◌<◌, arith}
+use Rattle.std.proofs.Common.{arith}
 use Rattle.std.proofs.lemmas.List.{length-map}
 use Rattle.nova_search.specs.Searches.{state_of, states_of}
 use Rattle.nova_search.proofs.Drawn.{drawn_on, none_drawn}

@@ -1,4 +1,4 @@
-use Rattle.std.proofs.Common.{rules, ◌≡◌, [], ◌∷◌, ◌++◌, Some, None}
+use Rattle.std.proofs.Common.{rules, ◌≡◌, Some, None}
 use Rattle.nova_search.specs.Searches.{states_of}
 use Rattle.nova_search.proofs.Drawn.{entered_drawn, idle_drawn}
 use Rattle.nova_search.proofs.Growth.{holds_here, idle_visited, idles_by, next_visited, succeeds_by}

@@ -7,7 +7,7 @@ returns-then-turns-limit-clause-seen g c =
     let fails : g.G.Goal.met c.args.goal.now c.args.vertex.now ≡ false = search rules in
     let many : c.args.limit ≤ c.args.vertex.now.turns = search rules in
     going_left c.args.merging (g.G.Goal.met c.args.goal.now) c.args.opening.now c.args.limit c.args.found.now.items c.args.edges.now.items c.args.place c.args.vertex.now c.args.is_whole
-    c.stays_whole.result c.requires.going c.requires.place c.requires.here fails many c.stays_whole.ensures
+    c.stays_whole.result c.requires.going c.requires.place c.requires.here fails many c.stays_whole.ensures.quiet c.stays_whole.ensures.still
 
 pub returns-clause-seen : goal.returns-clause-seen
 returns-clause-seen g c =
