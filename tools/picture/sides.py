@@ -27,7 +27,7 @@ ROLE = re.compile(r"domain (\d+) (at rest|bare|mute|at work)")
 SHARER = r" [A-Za-z0-9_-]+(?: up| down| waits)+"
 SHARED = re.compile(rf"shared (\d+):((?:{SHARER}(?:,{SHARER})*)?)")
 PROCESSOR = re.compile(r"processor (\d+):((?: [A-Za-z0-9_-]+)*)")
-FLOW = re.compile(r"flow [A-Za-z0-9_-]+ (own(?: \d+)* at work (?:to the end|until turn \d+: ec \d+ (?:creates|gives|revokes DerivesWithin cap \d+ target \d+))|waits ec \d+|[A-Z][A-Za-z]+\.[a-z]+(?: (?:cap|target|object|ec|processor|source|sm) \d+)+)")
+FLOW = re.compile(r"flow [A-Za-z0-9_-]+ (own(?: \d+)* at work (?:(?:to the end|until turn \d+: ec \d+ (?:creates|gives))(?:, revokes within from turn \d+)?|until turn \d+: ec \d+ revokes DerivesWithin cap \d+ target \d+)|waits ec \d+|[A-Z][A-Za-z]+\.[a-z]+(?: (?:cap|target|object|ec|processor|source|sm) \d+)+)")
 
 
 @dataclass(frozen=True, slots=True)

@@ -39,7 +39,7 @@ use Rattle.law_integrity.proofs.Confining.{member_pd}
 use Rattle.law_integrity.proofs.Leaving.{leaves_other}
 use Rattle.law_integrity.proofs.Passing.{coming, due_in, turned_by_time}
 use Rattle.law_integrity.proofs.Resting.{acts_in}
-use Rattle.law_flow.specs.Flow.{AreAlike, AreAtWork, DerivesWithin, IsPartitioned, IsAtWork, gain_for, if_own, own_bytes, own_deed, own_deeds, own_turn, RevokesNothing}
+use Rattle.law_flow.specs.Flow.{AreAlike, AreAtWork, DerivesWithin, IsAtWork, IsPartitioned, RevokesNothing, fixed, gain_for, if_own, own_bytes, own_deed, own_deeds, own_turn}
 use Rattle.law_flow.specs.Processors.{AreAtHome, AreTimed, IsAtHome, unfound, unnumbered_event}
 use Rattle.law_flow.proofs.Choosing.{still_acts}
 use Rattle.law_flow.proofs.Guarding.{GoesOn, OthersTurn, kept_on, next_partitioned, none_made_by, others_derive, others_turn, own_from}
@@ -217,7 +217,7 @@ home_others s before S P C T cpu part home c none = elim (comes (run (boot s) be
     ]
 
 pub home_next : (revokes : Bool) (s : Scenario) (before : List ℕ) (S P C : ℕ → Bool) (T : ℕ → Type 0) (cpu : ℕ) → IsPartitioned (run (boot s) before) (Of S) T (Of P) →
-    IsAtHome (run (boot s) before) (Of S) (Of P) (Of C) → C cpu ≡ true → ((ec sc : ℕ) → own_turn S (run (boot s) before) cpu ≡ Some (ec, sc) → IsAtWork (Unit {0}) (RevokesNothing (run (boot s) before) (Of S)) (revokes ≡ true) (run (boot s) before) ec) →
+    IsAtHome (run (boot s) before) (Of S) (Of P) (Of C) → C cpu ≡ true → ((ec sc : ℕ) → own_turn S (run (boot s) before) cpu ≡ Some (ec, sc) → IsAtWork (Unit {0}) (RevokesNothing (run (boot s) before) (Of S)) (revokes ≡ true) (false ≡ true) (run (boot s) before) ec) →
     (revokes ≡ true → DerivesWithin (run (boot s) before) (Of S)) → IsPartitioned (after (run (boot s) before) cpu) (Of S) (more (run (boot s) before) T cpu) (Of P)
 home_next revokes s before S P C T cpu part home c works within = by_own (own_turn S (run (boot s) before) cpu) refl
   where
@@ -240,13 +240,13 @@ pub record IsReached (k : KernelState) (S P : ℕ → Bool) (T : ℕ → Type 0)
   pub part : IsPartitioned k (Of S) T (Of P)
 
 pub home_further : (revokes : Bool) (k : KernelState) (S P C : ℕ → Bool) (T : ℕ → Type 0) (cpu : ℕ) → IsReached k S P T → IsAtHome k (Of S) (Of P) (Of C) → C cpu ≡ true →
-    ((ec sc : ℕ) → own_turn S k cpu ≡ Some (ec, sc) → IsAtWork (Unit {0}) (RevokesNothing k (Of S)) (revokes ≡ true) k ec) → (revokes ≡ true → DerivesWithin k (Of S)) → IsReached (after k cpu) S P (more k T cpu)
+    ((ec sc : ℕ) → own_turn S k cpu ≡ Some (ec, sc) → IsAtWork (Unit {0}) (RevokesNothing k (Of S)) (revokes ≡ true) (false ≡ true) k ec) → (revokes ≡ true → DerivesWithin k (Of S)) → IsReached (after k cpu) S P (more k T cpu)
 home_further revokes k S P C T cpu r home c works within = record {
   scenario = r.scenario;
   before = r.before ++ cpu ∷ [];
   is = run_append (boot r.scenario) r.before (cpu ∷ []) ∙ ap (λ (l : KernelState). after l cpu) r.is;
   part =
-      subst (λ (l : KernelState). IsPartitioned l (Of S) T (Of P) → IsAtHome l (Of S) (Of P) (Of C) → ((ec sc : ℕ) → own_turn S l cpu ≡ Some (ec, sc) → IsAtWork (Unit {0}) (RevokesNothing l (Of S)) (revokes ≡ true) l ec) →
+      subst (λ (l : KernelState). IsPartitioned l (Of S) T (Of P) → IsAtHome l (Of S) (Of P) (Of C) → ((ec sc : ℕ) → own_turn S l cpu ≡ Some (ec, sc) → IsAtWork (Unit {0}) (RevokesNothing l (Of S)) (revokes ≡ true) (false ≡ true) l ec) →
       (revokes ≡ true → DerivesWithin l (Of S)) → IsPartitioned (after l cpu) (Of S) (more l T cpu) (Of P)) r.is (λ p h w v. home_next revokes r.scenario r.before S P C T cpu p h c w v) r.part home works within;
 }
 
@@ -265,13 +265,13 @@ away_at k S P C T cpu r home out =
     subst (λ (l : KernelState). IsPartitioned l (Of S) T (Of P) → IsAtHome l (Of S) (Of P) (Of C) → AwayTurn l S P C cpu) r.is (λ p h. away_turn r.scenario r.before S P C T cpu p h out) r.part home
 
 pub home_at : (revokes : Bool) (k l : KernelState) (S P C : ℕ → Bool) (T U : ℕ → Type 0) (cpu : ℕ) → IsReached k S P T → IsReached l S P U → AreAlike k l (Of S) (Of P) → AreTogether revokes k l S P C →
-    IsAtHome k (Of S) (Of P) (Of C) → IsAtHome l (Of S) (Of P) (Of C) → ((ec sc : ℕ) → own_turn S k cpu ≡ Some (ec, sc) → IsAtWork (Unit {0}) (RevokesNothing k (Of S)) (revokes ≡ true) k ec) → C cpu ≡ true → HomeTurn revokes k l S P C cpu
+    IsAtHome k (Of S) (Of P) (Of C) → IsAtHome l (Of S) (Of P) (Of C) → ((ec sc : ℕ) → own_turn S k cpu ≡ Some (ec, sc) → IsAtWork (Unit {0}) (RevokesNothing k (Of S)) (revokes ≡ true) (false ≡ true) k ec) → C cpu ≡ true → HomeTurn revokes k l S P C cpu
 home_at revokes k l S P C T U cpu r q alike timed home abroad works c =
     subst (λ (m : KernelState). IsPartitioned m (Of S) T (Of P) → AreAlike m l (Of S) (Of P) → AreTogether revokes m l S P C → IsAtHome m (Of S) (Of P) (Of C) →
-    ((ec sc : ℕ) → own_turn S m cpu ≡ Some (ec, sc) → IsAtWork (Unit {0}) (RevokesNothing m (Of S)) (revokes ≡ true) m ec) → HomeTurn revokes m l S P C cpu) r.is
+    ((ec sc : ℕ) → own_turn S m cpu ≡ Some (ec, sc) → IsAtWork (Unit {0}) (RevokesNothing m (Of S)) (revokes ≡ true) (false ≡ true) m ec) → HomeTurn revokes m l S P C cpu) r.is
     (subst (λ (n : KernelState). IsPartitioned n (Of S) U (Of P) → IsAtHome n (Of S) (Of P) (Of C) → IsPartitioned (run (boot r.scenario) r.before) (Of S) T (Of P) →
     AreAlike (run (boot r.scenario) r.before) n (Of S) (Of P) → AreTogether revokes (run (boot r.scenario) r.before) n S P C → IsAtHome (run (boot r.scenario) r.before) (Of S) (Of P) (Of C) →
-    ((ec sc : ℕ) → own_turn S (run (boot r.scenario) r.before) cpu ≡ Some (ec, sc) → IsAtWork (Unit {0}) (RevokesNothing (run (boot r.scenario) r.before) (Of S)) (revokes ≡ true) (run (boot r.scenario) r.before) ec) → HomeTurn revokes (run (boot r.scenario) r.before) n S P C cpu) q.is
+    ((ec sc : ℕ) → own_turn S (run (boot r.scenario) r.before) cpu ≡ Some (ec, sc) → IsAtWork (Unit {0}) (RevokesNothing (run (boot r.scenario) r.before) (Of S)) (revokes ≡ true) (false ≡ true) (run (boot r.scenario) r.before) ec) → HomeTurn revokes (run (boot r.scenario) r.before) n S P C cpu) q.is
     (λ second other first a t h w. home_turn revokes r.scenario q.scenario r.before q.before S P C T U cpu first second a t h other w c) q.part abroad)
     r.part alike timed home works
 
@@ -334,7 +334,7 @@ ends_elsewhere A revokes S P C (cpu ∷ us) k l U alike timed g none = by_test (
         record { alike = ended.alike; timed = ended.timed; deeds = ap (λ (o : Option (ℕ × Deed)). in_front o (own_deeds S (after l cpu) us)) (own_none_deed S l cpu away.own) ∙ ended.deeds; bytes = ap (λ (o : Option (ℕ × ℕ)). gain_for l cpu o ++ own_bytes S (after l cpu) us) away.own ∙ ended.bytes; events = told_away A C l cpu (trace (after l cpu) us) is ∙ ended.events }
 
 -- the second goes on elsewhere until the next turn of a processor of the side's, which is as the first's
-meets_home : (A : ℕ → Bool) (revokes : Bool) (S P C : ℕ → Bool) (us : List ℕ) (k l : KernelState) (T U : ℕ → Type 0) (cpu : ℕ) (ts : List ℕ) → C cpu ≡ true → RingThere A k P C → GoesHome k S P C T (cpu ∷ ts) → ((ec sc : ℕ) → own_turn S k cpu ≡ Some (ec, sc) → IsAtWork (Unit {0}) (RevokesNothing k (Of S)) (revokes ≡ true) k ec) → GoesHome l S P C U us →
+meets_home : (A : ℕ → Bool) (revokes : Bool) (S P C : ℕ → Bool) (us : List ℕ) (k l : KernelState) (T U : ℕ → Type 0) (cpu : ℕ) (ts : List ℕ) → C cpu ≡ true → RingThere A k P C → GoesHome k S P C T (cpu ∷ ts) → ((ec sc : ℕ) → own_turn S k cpu ≡ Some (ec, sc) → IsAtWork (Unit {0}) (RevokesNothing k (Of S)) (revokes ≡ true) (false ≡ true) k ec) → GoesHome l S P C U us →
     AreAlike k l (Of S) (Of P) → AreTogether revokes k l S P C → cpu ∷ filter C ts ≡ filter C us →
     ((vs : List ℕ) (m : KernelState) (V : ℕ → Type 0) → GoesHome m S P C V vs → AreAlike (after k cpu) m (Of S) (Of P) → AreTogether revokes (after k cpu) m S P C → filter C ts ≡ filter C vs →
     HomeEnds (run (after k cpu) ts) (run m vs) S P C (own_deeds S (after k cpu) ts) (own_deeds S m vs) (own_bytes S (after k cpu) ts) (own_bytes S m vs) (told_on A C (trace (after k cpu) ts)) (told_on A C (trace m vs))) →
@@ -360,7 +360,7 @@ meets_home A revokes S P C (other ∷ us) k l T U cpu ts c rings g w h alike tim
         let one : cpu ≡ other = cc in
         let tails : filter C ts ≡ filter C us = cc in
         let step = home_at revokes k l S P C T U cpu g.reached h.reached alike timed g.home.0 h.home.0 w c in
-        let ended = later us (after l other) (more l U other) (record { reached = home_further revokes l S P C U other h.reached h.home.0 is (subst (λ (n : ℕ). (ec sc : ℕ) → own_turn S l n ≡ Some (ec, sc) → IsAtWork (Unit {0}) (RevokesNothing l (Of S)) (revokes ≡ true) l ec) one step.works) (λ yes. (timed.within yes).second); home = h.home.1 })
+        let ended = later us (after l other) (more l U other) (record { reached = home_further revokes l S P C U other h.reached h.home.0 is (subst (λ (n : ℕ). (ec sc : ℕ) → own_turn S l n ≡ Some (ec, sc) → IsAtWork (Unit {0}) (RevokesNothing l (Of S)) (revokes ≡ true) (false ≡ true) l ec) one step.works) (λ yes. (timed.within yes).second); home = h.home.1 })
         (subst (λ (n : ℕ). AreAlike (after k cpu) (after l n) (Of S) (Of P)) one step.alike) (subst (λ (n : ℕ). AreTogether revokes (after k cpu) (after l n) S P C) one step.timed) tails in
         record {
           alike = ended.alike;
@@ -374,14 +374,14 @@ meets_home A revokes S P C (other ∷ us) k l T U cpu ts c rings g w h alike tim
               ∙ sym (told_here A C k cpu (trace (after k cpu) ts) c);
         }
 
-pub home_runs : (A : ℕ → Bool) (revokes : Bool) (S P C : ℕ → Bool) (ts us : List ℕ) (k l : KernelState) (T U : ℕ → Type 0) → RingThere A k P C → GoesHome k S P C T ts → AreAtWork revokes S k ts → GoesHome l S P C U us → AreAlike k l (Of S) (Of P) → AreTogether revokes k l S P C →
+pub home_runs : (A : ℕ → Bool) (revokes : Bool) (S P C : ℕ → Bool) (ts us : List ℕ) (k l : KernelState) (T U : ℕ → Type 0) → RingThere A k P C → GoesHome k S P C T ts → AreAtWork (fixed revokes) S k ts → GoesHome l S P C U us → AreAlike k l (Of S) (Of P) → AreTogether revokes k l S P C →
     filter C ts ≡ filter C us → HomeEnds (run k ts) (run l us) S P C (own_deeds S k ts) (own_deeds S l us) (own_bytes S k ts) (own_bytes S l us) (told_on A C (trace k ts)) (told_on A C (trace l us))
 home_runs A revokes S P C [] us k l T U rings g works h alike timed same = ends_elsewhere A revokes S P C us k l U alike timed h same
 home_runs A revokes S P C (cpu ∷ ts) us k l T U rings g works h alike timed same =
     by_test (C cpu) refl same (λ j vs m V W there first at_work second a t rest. home_runs A revokes S P C ts vs j m V W there first at_work second a t rest)
   where
     by_test : (t : Bool) → C cpu ≡ t → (if t then cpu ∷ filter C ts else filter C ts) ≡ filter C us →
-        ((j : KernelState) (vs : List ℕ) (m : KernelState) (V W : ℕ → Type 0) → RingThere A j P C → GoesHome j S P C V ts → AreAtWork revokes S j ts → GoesHome m S P C W vs → AreAlike j m (Of S) (Of P) → AreTogether revokes j m S P C → filter C ts ≡ filter C vs →
+        ((j : KernelState) (vs : List ℕ) (m : KernelState) (V W : ℕ → Type 0) → RingThere A j P C → GoesHome j S P C V ts → AreAtWork (fixed revokes) S j ts → GoesHome m S P C W vs → AreAlike j m (Of S) (Of P) → AreTogether revokes j m S P C → filter C ts ≡ filter C vs →
         HomeEnds (run j ts) (run m vs) S P C (own_deeds S j ts) (own_deeds S m vs) (own_bytes S j ts) (own_bytes S m vs) (told_on A C (trace j ts)) (told_on A C (trace m vs))) →
         HomeEnds (run (after k cpu) ts) (run l us) S P C (in_front (own_deed S k cpu) (own_deeds S (after k cpu) ts)) (own_deeds S l us) (gain_for k cpu (own_turn S k cpu) ++ own_bytes S (after k cpu) ts) (own_bytes S l us)
         (told_on A C (in_front (event_at k cpu) (trace (after k cpu) ts))) (told_on A C (trace l us))

@@ -35,10 +35,10 @@ use Rattle.law_integrity.proofs.Confining.{member_pd}
 use Rattle.law_integrity.proofs.Edges.{at_index}
 use Rattle.law_integrity.proofs.Homes.{reached_homed}
 use Rattle.law_integrity.proofs.Resting.{IsMadeNow, acts_in, holds_made, second_after}
-use Rattle.law_flow.specs.Flow.{AreAtWork, DerivesWithin, IsPartitioned, IsAtWork, own_turn, RevokesNothing}
+use Rattle.law_flow.specs.Flow.{AreAtWork, DerivesWithin, IsAtWork, IsPartitioned, RevokesNothing, fixed, own_turn}
 use Rattle.law_flow.specs.Processors.{AreAtHome, IsAtHome, IsDivided, IsStill, is_still}
 use Rattle.law_flow.proofs.Away.{away_next, home_next}
-use Rattle.law_flow.proofs.Pairs.{first_made}
+use Rattle.law_flow.proofs.Pairs.{first_made, never}
 use Rattle.law_flow.proofs.Within.{own_at}
 use Rattle.law_flow.proofs.Tables.{unjoined}
 use Rattle.law_flow.proofs.Guarding.{alarm_was, others_derive, own_from}
@@ -91,17 +91,17 @@ abbrev CreatesNothing : KernelState → (ℕ → Type 0) → Type 0
 CreatesNothing k T = (pd : ℕ) → T pd → MayCreate k pd → ⊥
 
 own_objects : (timed : Type 0) (revokes : Bool) (s : Scenario) (before : List ℕ) (S P : ℕ → Bool) (T : ℕ → Type 0) (cpu ec sc : ℕ) → IsPartitioned (run (boot s) before) (Of S) T (Of P) →
-    own_turn S (run (boot s) before) cpu ≡ Some (ec, sc) → IsAtWork timed (RevokesNothing (run (boot s) before) (Of S)) (revokes ≡ true) (run (boot s) before) ec → (revokes ≡ true → DerivesWithin (run (boot s) before) (Of S)) → (after (run (boot s) before) cpu).objects ≡ (run (boot s) before).objects
+    own_turn S (run (boot s) before) cpu ≡ Some (ec, sc) → IsAtWork timed (RevokesNothing (run (boot s) before) (Of S)) (revokes ≡ true) (false ≡ true) (run (boot s) before) ec → (revokes ≡ true → DerivesWithin (run (boot s) before) (Of S)) → (after (run (boot s) before) cpu).objects ≡ (run (boot s) before).objects
 own_objects timed revokes s before S P T cpu ec sc c own works within =
     let k = run (boot s) before in
     let sound = reached_sound s before in
     let its = own_is S k cpu ec sc own in
     let d = deed k ec in
-    let mine = own_at timed (revokes ≡ true) S P T k cpu ec sc sound c own works within in
-    ap (λ (l : KernelState). l.objects) (own_turned S k cpu ec sc its) ∙ unjoined k.objects object_of (made_by d) (first_made timed k (Of S) (Of P) d mine)
+    let mine = own_at timed (revokes ≡ true) (false ≡ true) S P T k cpu ec sc sound c own works within in
+    ap (λ (l : KernelState). l.objects) (own_turned S k cpu ec sc its) ∙ unjoined k.objects object_of (made_by d) (first_made timed (false ≡ true) k (Of S) (Of P) d never mine)
 
 pub same_objects : (revokes : Bool) (s : Scenario) (before : List ℕ) (S P : ℕ → Bool) (T : ℕ → Type 0) (cpu : ℕ) → IsPartitioned (run (boot s) before) (Of S) T (Of P) → CreatesNothing (run (boot s) before) T →
-    ((ec sc : ℕ) → own_turn S (run (boot s) before) cpu ≡ Some (ec, sc) → IsAtWork (Unit {0}) (RevokesNothing (run (boot s) before) (Of S)) (revokes ≡ true) (run (boot s) before) ec) → (revokes ≡ true → DerivesWithin (run (boot s) before) (Of S)) → (after (run (boot s) before) cpu).objects ≡ (run (boot s) before).objects
+    ((ec sc : ℕ) → own_turn S (run (boot s) before) cpu ≡ Some (ec, sc) → IsAtWork (Unit {0}) (RevokesNothing (run (boot s) before) (Of S)) (revokes ≡ true) (false ≡ true) (run (boot s) before) ec) → (revokes ≡ true → DerivesWithin (run (boot s) before) (Of S)) → (after (run (boot s) before) cpu).objects ≡ (run (boot s) before).objects
 same_objects revokes s before S P T cpu part none works within = elim (comes (run (boot s) before) cpu) [
   | Idles nobody quiet same answer ↦ ap (λ (l : KernelState). l.objects) same
   | Takes t e is state answer ↦ elim is [
@@ -184,7 +184,7 @@ divided_next s before S P C T cpu part d same = record {
 
 -- what the others do makes nothing of what the side holds, and what it does itself stays within it
 derives_next : (revokes : Bool) (s : Scenario) (before : List ℕ) (S P : ℕ → Bool) (T : ℕ → Type 0) (cpu : ℕ) → IsPartitioned (run (boot s) before) (Of S) T (Of P) →
-    ((ec sc : ℕ) → own_turn S (run (boot s) before) cpu ≡ Some (ec, sc) → IsAtWork (Unit {0}) (RevokesNothing (run (boot s) before) (Of S)) (revokes ≡ true) (run (boot s) before) ec) →
+    ((ec sc : ℕ) → own_turn S (run (boot s) before) cpu ≡ Some (ec, sc) → IsAtWork (Unit {0}) (RevokesNothing (run (boot s) before) (Of S)) (revokes ≡ true) (false ≡ true) (run (boot s) before) ec) →
     (revokes ≡ true → DerivesWithin (run (boot s) before) (Of S)) → revokes ≡ true → DerivesWithin (after (run (boot s) before) cpu) (Of S)
 derives_next revokes s before S P T cpu part works within may = by_own (own_turn S (run (boot s) before) cpu) refl
   where
@@ -193,11 +193,11 @@ derives_next revokes s before S P T cpu part works within may = by_own (own_turn
     by_own (Some pair) is = own_derives_on (Unit {0}) s before S P T cpu pair.0 pair.1 revokes part is (works pair.0 pair.1 is) within may
 
 pub home_along : (revokes : Bool) (s : Scenario) (before turns : List ℕ) (S P C : ℕ → Bool) (T : ℕ → Type 0) → IsPartitioned (run (boot s) before) (Of S) T (Of P) → IsDivided (run (boot s) before) (Of S) T (Of P) (Of C) →
-    (revokes ≡ true → DerivesWithin (run (boot s) before) (Of S)) → AreAtWork revokes S (run (boot s) before) turns → AreAtHome S P C (run (boot s) before) turns
+    (revokes ≡ true → DerivesWithin (run (boot s) before) (Of S)) → AreAtWork (fixed revokes) S (run (boot s) before) turns → AreAtHome S P C (run (boot s) before) turns
 home_along revokes s before [] S P C T part divided within works = tt
 home_along revokes s before (cpu ∷ turns) S P C T part divided within works = (
   home,
-  subst (λ (l : KernelState). (revokes ≡ true → DerivesWithin l (Of S)) → AreAtWork revokes S l turns → AreAtHome S P C l turns) next
+  subst (λ (l : KernelState). (revokes ≡ true → DerivesWithin l (Of S)) → AreAtWork (fixed revokes) S l turns → AreAtHome S P C l turns) next
       (home_along revokes s (before ++ cpu ∷ []) turns S P C (more k T cpu) (subst (λ (l : KernelState). IsPartitioned l (Of S) (more k T cpu) (Of P)) (sym next) (by_test (C cpu) refl))
       (subst (λ (l : KernelState). IsDivided l (Of S) (more k T cpu) (Of P) (Of C)) (sym next) (divided_next s before S P C T cpu part divided same)))
       (derives_next revokes s before S P T cpu part works.0 within) works.1,

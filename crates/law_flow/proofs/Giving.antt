@@ -22,7 +22,7 @@ use Rattle.law_flow.proofs.Seeing.{Both}
 
 -- ONE MORE RANGE
 
-find_joined : (p : Derivation → Bool) (list : List Derivation) (x : Derivation) → find p (list ++ x ∷ []) ≡ or_else (find p list) (p x) x
+pub find_joined : (p : Derivation → Bool) (list : List Derivation) (x : Derivation) → find p (list ++ x ∷ []) ≡ or_else (find p list) (p x) x
 find_joined p [] x = by_test (p x)
   where
     by_test : (t : Bool) → (if t then Some x else None) ≡ or_else None t x
@@ -58,7 +58,7 @@ held_joined None false x = refl
 pub twin_covers : (kind : Kind) (pd place : ℕ) (d e : Derivation) → IsTwin d e → covers kind pd place e ≡ covers kind pd place d
 twin_covers kind pd place d e t = ap₂ (λ (n : ℕ) (h : Held). is_same_kind kind h.range.kind && (n == pd && has_place h.range place)) t.pd t.held
 
-spaces_joined : (kind : Kind) (pd place : ℕ) (xs ys : List Derivation) (d e : Derivation) → IsTwin d e →
+pub spaces_joined : (kind : Kind) (pd place : ℕ) (xs ys : List Derivation) (d e : Derivation) → IsTwin d e →
     ◌≡◌ {A = Option Held} (option_map held_by (find (covers kind pd place) ys)) (option_map held_by (find (covers kind pd place) xs)) →
     ◌≡◌ {A = Option Held} (option_map held_by (find (covers kind pd place) (ys ++ e ∷ []))) (option_map held_by (find (covers kind pd place) (xs ++ d ∷ [])))
 spaces_joined kind pd place xs ys d e t same =

@@ -12,7 +12,6 @@ use Rattle.nova_model.specs.Deeds.{deed}
 use Rattle.nova_model.specs.Edges.{AreEdges, after_edges, cpu_in, edge, is_giving}
 use Rattle.nova_model.specs.Inputs.{is_stirred}
 use Rattle.nova_model.specs.Runs.{after, run}
-use Rattle.nova_model.specs.Semaphores.{semaphore}
 use Rattle.nova_model.specs.State.{Contexts, KernelState, context, context_at, pd_in, pd_of, processor_in, processor_of}
 use Rattle.nova_model.specs.Times.{alarm_sm, due_on, next_entry, next_moment}
 use Rattle.nova_model.specs.Turn.{answer_of, turn}
@@ -20,10 +19,9 @@ use Rattle.nova_model.specs.declared.context.EcState.{EcState}
 use Rattle.nova_model.specs.declared.deed.Deed.{Deed}
 use Rattle.nova_model.specs.declared.event.Event.{Event}
 use Rattle.nova_model.specs.declared.event.Turn.TheVariants.{Stepped}
-use Rattle.nova_model.specs.declared.times.Deadline.{Deadline}
 use Rattle.nova_model.specs.declared.times.Due.{Due}
 use Rattle.nova_model.specs.declared.times.Due.TheVariants as due
-use Rattle.law_forest.specs.Effects.{Falls, Passing, Ticks}
+use Rattle.law_forest.specs.Effects.{Falls, Passing, Ticks, made_by}
 use Rattle.law_forest.specs.Turns.{IsPassing, passing, passing_event, turned}
 use Rattle.law_forest.proofs.Turning.{acts_next, due_answers, due_turn, event_at, idle_none, tick_answers, tick_turn}
 use Rattle.law_turns.proofs.Deadlines.{at_home}
@@ -39,11 +37,12 @@ use Rattle.law_integrity.specs.Confined.{IsOwned, Of}
 use Rattle.law_integrity.specs.Rights.{HasTurn}
 use Rattle.law_integrity.proofs.Authorised.{has_turn}
 use Rattle.law_integrity.proofs.Beside.{idle_stays}
-use Rattle.law_flow.specs.Flow.{AreAlike, HasSameClock, gain_for, IsPartitioned, IsAtWork, if_own, own_deed, own_turn, RevokesNothing, AreGivingWithin, AreRevokingWithin, IsGivingWithin, unnumbered}
+use Rattle.law_flow.specs.Flow.{AreAlike, AreCreatingAlone, HasSameClock, gain_for, IsPartitioned, IsAtWork, if_own, own_deed, own_turn, RevokesNothing, AreGivingWithin, AreRevokingWithin, IsGivingWithin, unnumbered}
 use Rattle.law_flow.specs.Processors.{AreTimed, IsAtHome, unfound, unnumbered_event}
 use Rattle.law_flow.proofs.Seeing.{Both, context_same}
-use Rattle.law_flow.proofs.Pairs.{first_made, first_own, same_event, second_made}
-use Rattle.law_flow.proofs.Within.{revokes_second, within_partition, works_too}
+use Rattle.law_flow.proofs.Creating.{AreMaking}
+use Rattle.law_flow.proofs.Pairs.{first_made, never, same_event, same_made}
+use Rattle.law_flow.proofs.Within.{own_at, revokes_second, within_partition, works_too}
 use Rattle.law_flow.proofs.Doing.{by_deed}
 use Rattle.law_flow.proofs.Timing.{clock_same, due_same, entries_same}
 use Rattle.law_flow.proofs.Choosing.{ChosenSame, Rank, chosen_same, stamped}
@@ -68,7 +67,7 @@ pub record HomeTurn (revokes : Bool) (k l : KernelState) (S P C : ℕ → Bool) 
   pub deeds : own_deed S l cpu ≡ own_deed S k cpu
   pub bytes : gain_for l cpu (own_turn S l cpu) ≡ gain_for k cpu (own_turn S k cpu)
   pub event : (A : ℕ → Bool) → RingThere A k P C → option_map (unfound A) (option_map unnumbered_event (event_at l cpu)) ≡ option_map (unfound A) (option_map unnumbered_event (event_at k cpu))
-  pub works : (ec sc : ℕ) → own_turn S l cpu ≡ Some (ec, sc) → IsAtWork (Unit {0}) (RevokesNothing l (Of S)) (revokes ≡ true) l ec
+  pub works : (ec sc : ℕ) → own_turn S l cpu ≡ Some (ec, sc) → IsAtWork (Unit {0}) (RevokesNothing l (Of S)) (revokes ≡ true) (false ≡ true) l ec
 
 pub own_none_deed : (S : ℕ → Bool) (k : KernelState) (cpu : ℕ) → own_turn S k cpu ≡ None → own_deed S k cpu ≡ None
 own_none_deed S k cpu none = ap (λ (o : Option (ℕ × ℕ)). option_map (λ (p : ℕ × ℕ). (p.0, unnumbered (deed k p.0))) o) none
@@ -142,7 +141,7 @@ same_pair m n i j is = ap (λ (p : ℕ × ℕ). p.0) (same_Some {A = ℕ × ℕ}
 pub home_turn : (revokes : Bool) (a b : Scenario) (x y : List ℕ) (S P C : ℕ → Bool) (T U : ℕ → Type 0) (cpu : ℕ) →
     IsPartitioned (run (boot a) x) (Of S) T (Of P) → IsPartitioned (run (boot b) y) (Of S) U (Of P) → AreAlike (run (boot a) x) (run (boot b) y) (Of S) (Of P) →
     AreTogether revokes (run (boot a) x) (run (boot b) y) S P C → IsAtHome (run (boot a) x) (Of S) (Of P) (Of C) → IsAtHome (run (boot b) y) (Of S) (Of P) (Of C) →
-    ((ec sc : ℕ) → own_turn S (run (boot a) x) cpu ≡ Some (ec, sc) → IsAtWork (Unit {0}) (RevokesNothing (run (boot a) x) (Of S)) (revokes ≡ true) (run (boot a) x) ec) → C cpu ≡ true → HomeTurn revokes (run (boot a) x) (run (boot b) y) S P C cpu
+    ((ec sc : ℕ) → own_turn S (run (boot a) x) cpu ≡ Some (ec, sc) → IsAtWork (Unit {0}) (RevokesNothing (run (boot a) x) (Of S)) (revokes ≡ true) (false ≡ true) (run (boot a) x) ec) → C cpu ≡ true → HomeTurn revokes (run (boot a) x) (run (boot b) y) S P C cpu
 home_turn revokes a b x y S P C T U cpu first second alike together home abroad works c = by_due (due_on k.times cpu) refl
   where
     k : KernelState
@@ -230,14 +229,16 @@ home_turn revokes a b x y S P C T U cpu first second alike together home abroad 
         let clock_so : HasSameClock k l r.actor = clock_same k l (Of P) (Of C) (processor_of k r.actor) timed (ap (λ (o : Option Object). C (processor_in o)) actor.object ∙ c) in
         let working = works r.actor r.sc own in
         let within : is_giving (context k r.actor).state ≡ true → IsGivingWithin k (Of S) r.actor = λ giving. within_partition S P T k cpu r.actor r.sc sound first own giving working.state (working.gives giving) in
-        let again = works_too (Unit {0}) (RevokesNothing k (Of S)) (RevokesNothing l (Of S)) (revokes ≡ true) k l (Of S) (Of P) two r.actor pays.2 its.of (revokes_second k l S P alike also second.side) working in
+        let again = works_too (Unit {0}) (RevokesNothing k (Of S)) (RevokesNothing l (Of S)) (revokes ≡ true) (false ≡ true) k l (Of S) (Of P) two r.actor pays.2 its.of (revokes_second k l S P alike also second.side) working in
         let within_too : is_giving (context l r.actor).state ≡ true → IsGivingWithin l (Of S) r.actor = λ giving. within_partition S P U l cpu r.actor r.sc also second theirs giving again.state (again.gives giving) in
         let state : (context l r.actor).state ≡ (context k r.actor).state = ap (λ (x : EcState). x.state) (context_same k l (Of S) (Of P) two r.actor pays.2 its.of) in
-        let at_work : IsAtWork (HasSameClock k l r.actor) (AreGivingWithin k l (Of S) r.actor) (AreRevokingWithin k l (Of S)) k r.actor =
-        work_as (Unit {0}) (HasSameClock k l r.actor) (RevokesNothing k (Of S)) (AreGivingWithin k l (Of S) r.actor) (revokes ≡ true) (AreRevokingWithin k l (Of S)) k r.actor (λ none. clock_so)
-        (λ giving asked. record { first = within giving; second = within_too (ap is_giving state ∙ giving) }) together.within working in
+        let at_work : IsAtWork (HasSameClock k l r.actor) (AreGivingWithin k l (Of S) r.actor) (AreRevokingWithin k l (Of S)) (AreCreatingAlone k l (Of S) (Of P)) k r.actor =
+        work_as (Unit {0}) (HasSameClock k l r.actor) (RevokesNothing k (Of S)) (AreGivingWithin k l (Of S) r.actor) (revokes ≡ true) (AreRevokingWithin k l (Of S)) (false ≡ true) (AreCreatingAlone k l (Of S) (Of P)) k r.actor (λ none. clock_so)
+        (λ giving asked. record { first = within giving; second = within_too (ap is_giving state ∙ giving) }) together.within (λ h. absurd (never h)) working in
         let pair = own_of k l S P cpu r.actor r.sc twins own at_work in
         let same = decided k l S P cpu r.actor r.sc twins own at_work in
+        let unmade : made_by (deed k r.actor) ≡ None =
+        first_made (Unit {0}) (false ≡ true) k (Of S) (Of P) (deed k r.actor) never (own_at (Unit {0}) (revokes ≡ true) (false ≡ true) S P T k cpu r.actor r.sc (reached_sound a x) first own working (λ it. (together.within it).first)) in
         record {
           alike = own_alike k l S P cpu cpu r.actor r.sc twins own theirs at_work;
           timed = record {
@@ -246,8 +247,7 @@ home_turn revokes a b x y S P C T U cpu first second alike together home abroad 
                 (subst (λ (s : KernelState). AreTimed (turned k cpu (by_deed k r.actor r.sc (deed k r.actor) (is_stirred k r.actor (deed k r.actor)))) s (Of P) (Of C))
                 (sym (own_turned S l cpu r.actor r.sc (own_is S l cpu r.actor r.sc theirs)))
                 (own_timed k l (Of P) (Of C) cpu r.actor r.sc (deed k r.actor) (deed l r.actor) (is_stirred k r.actor (deed k r.actor)) (is_stirred l r.actor (deed l r.actor))
-                (first_made (HasSameClock k l r.actor) k (Of S) (Of P) (deed k r.actor) (first_own (HasSameClock k l r.actor) k l (Of S) (Of P) (deed k r.actor) (deed l r.actor) pair))
-                (second_made (HasSameClock k l r.actor) k l (Of S) (Of P) (deed k r.actor) (deed l r.actor) pair) timed c pays.0
+                unmade (same_made (HasSameClock k l r.actor) (AreMaking k l (Of S) (Of P)) k l (Of S) (Of P) (deed k r.actor) (deed l r.actor) pair ∙ unmade) timed c pays.0
                 (alike.objects r.sc pays.0) pays.1 (stamps_below a x) (stamps_below b y)));
             within = λ yes. record {
               alike = own_derived k l S P cpu cpu r.actor r.sc twins own theirs at_work (together.within yes).alike;
@@ -265,7 +265,7 @@ home_turn revokes a b x y S P C T U cpu first second alike together home abroad 
               ∙ sym (ap (option_map unnumbered_event) (chosen_told k cpu (stamped k r) one)));
           works = λ ec sc its_own.
               let both = same_pair r.actor r.sc ec sc (sym theirs ∙ its_own) in
-              subst (λ (n : ℕ). IsAtWork (Unit {0}) (RevokesNothing l (Of S)) (revokes ≡ true) l n) both again;
+              subst (λ (n : ℕ). IsAtWork (Unit {0}) (RevokesNothing l (Of S)) (revokes ≡ true) (false ≡ true) l n) both again;
         }
 
     by_moment : (o : Option ℕ) → next_moment (run (boot a) x).times cpu ≡ o → due_on (run (boot a) x).times cpu ≡ None → choice (run (boot a) x) cpu ≡ None → choice (run (boot b) y) cpu ≡ None →

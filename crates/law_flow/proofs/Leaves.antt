@@ -1,26 +1,24 @@
 -- The leaf that a revoke of a side's takes next is the same range in two states, where the side's ranges are made of each other alike and in one order, and all that is made of them is the side's.
 use Rattle.std.proofs.Common.{arith, ◌≡◌, ℕ, zero, suc, ◌+◌, ◌-◌, ◌^◌, ◌==◌, ◌<◌, ◌≤◌, List, refl, sym, ap, ap₂, ◌∙◌, subst, inl, inr}
-use Rattle.std.specs.Prelude.{Bool, true, false, ◌&&◌, ◌||◌, ◌⊎◌, Contains, filter, is_some, max, min, nat_le, nat_lt, option_map, Option, Some, None}
+use Rattle.std.specs.Prelude.{Bool, true, false, ◌&&◌, ◌||◌, ◌⊎◌, filter, max, min, nat_le, nat_lt, option_map, Option, Some, None}
 use Rattle.std.specs.List.{find, list_all, list_any}
-use Rattle.std.proofs.lemmas.Bool.{and_from, and_parts, eq-eqb, eqb-true, or_cases, or_left, or_right}
+use Rattle.std.proofs.lemmas.Bool.{and_parts, eq-eqb, eqb-true, or_cases, or_left, or_right}
 use Rattle.nova_range.specs.Ranges.{HasPlace, end_of, is_inside, overlaps}
-use Rattle.nova_range.specs.declared.range.Kind.{Kind}
-use Rattle.nova_model.specs.Delegations.{Delegations, base_of, greatest_by, id_of, is_child_of, is_id, is_same_kind, least_by, newest_child, parent_of, range_of}
+use Rattle.nova_model.specs.Delegations.{Delegations, base_of, greatest_by, id_of, is_child_of, is_id, is_same_kind, newest_child, parent_of, range_of}
 use Rattle.nova_model.specs.Forest.{IsForest}
 use Rattle.nova_model.specs.Lines.{line}
 use Rattle.nova_model.specs.Revokes.{Below, IsInScope, Revocation, Top, in_scope, is_child_in, is_entry, is_made_of, is_met, is_own, is_top, leads_into, leaf_by, leaf_from, newest_in, next_leaf, onward, scope_entry}
 use Rattle.nova_model.specs.State.{KernelState}
 use Rattle.nova_model.specs.declared.delegation.Derivation.{Derivation}
 use Rattle.law_forest.proofs.Extremes.{IsOrder, any_from, any_in, before_facts, greatest, least, none_before, none_passes}
-use Rattle.law_forest.proofs.Leaves.{child_of_newest, entry_is, newest_in_is}
+use Rattle.law_forest.proofs.Leaves.{child_of_newest}
 use Rattle.law_forest.proofs.Lines.{parent_facts}
 use Rattle.law_forest.proofs.Members.{IsIn, all_at, contains_from_in, filtered_in, in_filtered, in_from_contains}
 use Rattle.law_forest.proofs.Pairs.{same_id}
 use Rattle.law_forest.proofs.Scopes.{child_found, decided, parent_found}
-use Rattle.law_forest.proofs.Transfers.{kinds_equal}
 use Rattle.law_flow.specs.Flow.{AreDerivedAlike, AreRevokingWithin, DerivesWithin, Held, IsSameRange, held_by}
 use Rattle.law_flow.proofs.Busy.{made_by_it, met_kind, own_of_it, parent_above}
-use Rattle.law_flow.proofs.Holds.{Covering, HoldAlike, at_base, hold_flipped, one_covers, twin_in}
+use Rattle.law_flow.proofs.Holds.{HoldAlike, at_base, hold_flipped, one_covers, twin_in}
 
 -- TWO STATES
 

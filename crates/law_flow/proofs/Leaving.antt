@@ -53,7 +53,7 @@ at_place (x ∷ xs) (suc n) below = at_place xs n (omega (arith, below))
 pub raw : {T : Type 0} (xs ys : List (Option T)) (n : ℕ) → n < length xs → n < length ys → entry (slice_get ys n) ≡ entry (slice_get xs n) → slice_get ys n ≡ slice_get xs n
 raw {T} xs ys n first second same = at_place ys n second ∙ ap (λ (o : Option T). Some o) same ∙ sym (at_place xs n first)
 
-absent : {T : Type 0} (xs : List (Option T)) (f : Object → Bool) (os : List Object) (n : ℕ) → map is_some xs ≡ map f os → option_map f (slice_get os n) ≡ Some false → entry (slice_get xs n) ≡ None
+pub absent : {T : Type 0} (xs : List (Option T)) (f : Object → Bool) (os : List Object) (n : ℕ) → map is_some xs ≡ map f os → option_map f (slice_get os n) ≡ Some false → entry (slice_get xs n) ≡ None
 absent {T} xs f os n same kind = by_entry (slice_get xs n) (sym (get_map is_some xs n) ∙ ap (λ (l : List Bool). slice_get l n) same ∙ get_map f os n ∙ kind)
   where
     by_entry : (o : Option (Option T)) → option_map is_some o ≡ Some false → entry o ≡ None

@@ -1,4 +1,5 @@
 pub mod Seeing
+pub mod Creating
 pub mod Deciding
 pub mod Holds
 pub mod Busy
@@ -11,6 +12,8 @@ pub mod Giving
 pub mod Leaves
 pub mod Sets
 pub mod Taking
+pub mod Making
+pub mod Numbers
 pub mod Pairs
 pub mod Turns
 pub mod Leaving
@@ -18,7 +21,12 @@ pub mod Others
 pub mod Within
 pub mod Ungiven
 pub mod Guarding
+pub mod Existing
+pub mod Whole
 pub mod Own
+pub mod Growing
+pub mod Grown
+pub mod Lasting
 pub mod Timing
 pub mod Choosing
 pub mod Paying

@@ -15,6 +15,7 @@ use Rattle.law_forest.proofs.Members.{IsIn, found_in}
 use Rattle.law_forest.proofs.Scopes.{KeepsParents, find_more, more_keeps, next_childless}
 use Rattle.law_flow.specs.Flow.{Held, held_by, origin_of}
 use Rattle.law_flow.proofs.Parts.{IsPart}
+use Rattle.law_flow.proofs.Seeing.{some_held}
 use Rattle.law_flow.proofs.Sets.{line_kept, parents_kept}
 
 -- OF WHAT STAYS
@@ -49,7 +50,7 @@ child_line k S child forest part =
     (ap (line_by child.id (list ++ child ∷ [])) up ∙ line_kept list (list ++ child ∷ []) (child_keeps k S child forest part) child.id q part.there
     ∙ line_enough k.delegations forest child.id (suc q.id) q part.there older (omega arith))
 
-abbrev either : Bool → Held → Option Held → Option Held
+abbrev pub either : Bool → Held → Option Held → Option Held
 either true h o = Some h
 either false h o = o
 
@@ -69,24 +70,16 @@ or_else (Some d) t x = Some d
 or_else None true x = Some x
 or_else None false x = None
 
-abbrev origin_or : Bool → Bool → Option Held → Option Held → Option Held
+abbrev pub origin_or : Bool → Bool → Option Held → Option Held → Option Held
 origin_or true t old new = old
 origin_or false true old new = new
 origin_or false false old new = None
 
-origin_joined : (k : KernelState) (S : ℕ → Type 0) (child : Derivation) → IsForest k.delegations → IsPart k S child → (from : ℕ) (t : Bool) (o : Option Derivation) →
-    ((d : Derivation) → o ≡ Some d → IsIn k.delegations.list d) →
-    origin_of (k.delegations.list ++ child ∷ []) from (or_else o t child) ≡
-    origin_or (is_some o) t (origin_of k.delegations.list from o) (origin_of (k.delegations.list ++ child ∷ []) from (Some child))
-origin_joined k S child forest part from t (Some d) there = origin_kept k.delegations.list (k.delegations.list ++ child ∷ []) (child_keeps k S child forest part) from d (there d refl)
-origin_joined k S child forest part from true None there = refl
-origin_joined k S child forest part from false None there = refl
-
-some_held : (o p : Option Derivation) → ◌≡◌ {A = Option Held} (option_map held_by o) (option_map held_by p) → is_some o ≡ is_some p
-some_held None None h = refl
-some_held None (Some d) h = absurd (cc)
-some_held (Some d) None h = absurd (cc)
-some_held (Some d) (Some e) h = refl
+pub origin_joined : (list : List Derivation) (x : Derivation) → KeepsParents list (list ++ x ∷ []) → (from : ℕ) (t : Bool) (o : Option Derivation) → ((d : Derivation) → o ≡ Some d → IsIn list d) →
+    origin_of (list ++ x ∷ []) from (or_else o t x) ≡ origin_or (is_some o) t (origin_of list from o) (origin_of (list ++ x ∷ []) from (Some x))
+origin_joined list x keeps from t (Some d) there = origin_kept list (list ++ x ∷ []) keeps from d (there d refl)
+origin_joined list x keeps from true None there = refl
+origin_joined list x keeps from false None there = refl
 
 -- alike in two states
 pub origins_joined : (k l : KernelState) (S : ℕ → Type 0) (child twin : Derivation) → IsForest k.delegations → IsForest l.delegations → (part : IsPart k S child) (also : IsPart l S twin) (kind : Kind) (pd place from : ℕ) →
@@ -97,7 +90,7 @@ pub origins_joined : (k l : KernelState) (S : ℕ → Type 0) (child twin : Deri
     origin_of (l.delegations.list ++ twin ∷ []) from (or_else (find (covers kind pd place) l.delegations.list) (covers kind pd place twin) twin) ≡
     origin_of (k.delegations.list ++ child ∷ []) from (or_else (find (covers kind pd place) k.delegations.list) (covers kind pd place child) child)
 origins_joined k l S child twin first second part also kind pd place from held origins covering domain same sources =
-    origin_joined l S twin second also from (covers kind pd place twin) (find (covers kind pd place) l.delegations.list) (λ d is. (found_in (covers kind pd place) l.delegations.list d is).0)
+    origin_joined l.delegations.list twin (child_keeps l S twin second also) from (covers kind pd place twin) (find (covers kind pd place) l.delegations.list) (λ d is. (found_in (covers kind pd place) l.delegations.list d is).0)
     ∙ ap (λ (t : Bool). origin_or t (covers kind pd place twin) (origin_of l.delegations.list from (find (covers kind pd place) l.delegations.list)) (origin_of (l.delegations.list ++ twin ∷ []) from (Some twin)))
     (some_held (find (covers kind pd place) l.delegations.list) (find (covers kind pd place) k.delegations.list) held)
     ∙ ap₂ (λ (t : Bool) (o : Option Held). origin_or (is_some (find (covers kind pd place) k.delegations.list)) t o (origin_of (l.delegations.list ++ twin ∷ []) from (Some twin))) covering origins
@@ -105,4 +98,4 @@ origins_joined k l S child twin first second part also kind pd place from held o
     (child_origin l S twin second also from
     ∙ ap₂ (λ (n : ℕ) (h : Held). either (n == from) h (origin_of l.delegations.list from (Some also.source))) domain same
     ∙ ap (either (child.pd == from) (held_by child)) sources ∙ sym (child_origin k S child first part from))
-    ∙ sym (origin_joined k S child first part from (covers kind pd place child) (find (covers kind pd place) k.delegations.list) (λ d is. (found_in (covers kind pd place) k.delegations.list d is).0))
+    ∙ sym (origin_joined k.delegations.list child (child_keeps k S child first part) from (covers kind pd place child) (find (covers kind pd place) k.delegations.list) (λ d is. (found_in (covers kind pd place) k.delegations.list d is).0))

@@ -1,6 +1,6 @@
 -- A turn of the side's own keeps the condition, too; so along turns it stays true, and each turn of others leaves the side alone.
 use Rattle.std.proofs.Common.{◌≡◌, ℕ, List, [], ◌∷◌, ◌++◌, refl, sym, ap, ◌∙◌, subst, inl, inr, arith}
-use Rattle.std.specs.Prelude.{Bool, true, Contains, slice_get, option_map, Option, Some, None}
+use Rattle.std.specs.Prelude.{Bool, true, false, Contains, slice_get, option_map, Option, Some, None}
 use Rattle.std.specs.List.{find}
 use Rattle.std.proofs.lemmas.Option.{same_Some, slice_get_within}
 use Rattle.nova_objects.specs.declared.object.Object.{Object}
@@ -24,11 +24,11 @@ use Rattle.law_isolation.proofs.Runs.{reached_sound}
 use Rattle.law_origins.proofs.Lists.{run_append}
 use Rattle.law_integrity.specs.Confined.{JoinsSet, Of, more}
 use Rattle.law_integrity.proofs.Entries.{get_set}
-use Rattle.law_flow.specs.Flow.{AreLeftAlone, AreAtWorkTimeless, DerivesWithin, held_by, IsPartitioned, IsSide, IsTimeless, IsAtWork, RevokesNothing, own_turn}
+use Rattle.law_flow.specs.Flow.{AreLeftAlone, AreAtWorkTimeless, DerivesWithin, fixed, held_by, IsPartitioned, IsSide, IsTimeless, IsAtWork, RevokesNothing, own_turn}
 use Rattle.law_flow.proofs.Deciding.{IsOwn}
 use Rattle.law_flow.proofs.Doing.{branch_none, by_deed}
 use Rattle.law_flow.proofs.Giving.{in_joined, part_leads}
-use Rattle.law_flow.proofs.Pairs.{Alone, IsOwnDeed, Leaf, Part, first_made, less_was, own_derives, own_turned_side}
+use Rattle.law_flow.proofs.Pairs.{Alone, IsOwnDeed, Leaf, New, Part, never, first_made, less_was, own_derives, own_turned_side}
 use Rattle.law_flow.proofs.Taking.{led_before}
 use Rattle.law_flow.proofs.Within.{own_at, within_partition}
 use Rattle.law_flow.proofs.Tables.{unjoined}
@@ -37,7 +37,7 @@ use Rattle.law_flow.proofs.Guarding.{GoesOn, IsGivenTo, foreign_so, kept_on, nex
 
 -- ONE OF THE SIDE'S OWN
 
-undated : (ds : List (Option Deadline)) (o : Option (ℕ × Option Deadline)) (n : ℕ) → ((m : ℕ) (d : Option Deadline) → o ≡ Some (m, d) → d ≡ None) → entry (slice_get ds n) ≡ None →
+pub undated : (ds : List (Option Deadline)) (o : Option (ℕ × Option Deadline)) (n : ℕ) → ((m : ℕ) (d : Option Deadline) → o ≡ Some (m, d) → d ≡ None) → entry (slice_get ds n) ≡ None →
     entry (slice_get (deadlines_with ds o) n) ≡ None
 undated ds None n none old = old
 undated ds (Some (m, d)) n none old =
@@ -58,15 +58,16 @@ no_date P ec (deeds.Blocks sm None) own m e is = absurd (cc)
 no_date P ec (deeds.Blocks sm (Some until)) own m e is = absurd own.1
 no_date P ec other own m e is = absurd (cc)
 
-own_no_date : (k : KernelState) (S P : ℕ → Type 0) (ec : ℕ) (d : Deed) → IsOwnDeed ⊥ k S P d → (m : ℕ) (e : Option Deadline) → deadline_by ec d ≡ Some (m, e) → e ≡ None
+pub own_no_date : (k : KernelState) (S P : ℕ → Type 0) (ec : ℕ) (d : Deed) → IsOwnDeed ⊥ (false ≡ true) k S P d → (m : ℕ) (e : Option Deadline) → deadline_by ec d ≡ Some (m, e) → e ≡ None
 own_no_date k S P ec d (Alone own) m e is = no_date P ec d own m e is
 own_no_date k S P ec d (Part child cursor gives part) m e is = absurd (let none : None ≡ Some (m, e) = sym (ap (deadline_by ec) gives) ∙ is in cc)
 own_no_date k S P ec d (Leaf leaf takes mine) m e is = absurd (let none : None ≡ Some (m, e) = sym (ap (deadline_by ec) takes) ∙ is in cc)
+own_no_date k S P ec d (New call target made is creates of) m e dated = absurd (never creates)
 
-pub own_goes_on : (timed : Type 0) (revokes : Bool) (s : Scenario) (before : List ℕ) (S P : ℕ → Bool) (T : ℕ → Type 0) (cpu ec sc : ℕ) → IsPartitioned (run (boot s) before) (Of S) T (Of P) →
-    own_turn S (run (boot s) before) cpu ≡ Some (ec, sc) → IsAtWork timed (RevokesNothing (run (boot s) before) (Of S)) (revokes ≡ true) (run (boot s) before) ec →
-    (revokes ≡ true → DerivesWithin (run (boot s) before) (Of S)) → IsPartitioned (after (run (boot s) before) cpu) (Of S) (more (run (boot s) before) T cpu) (Of P)
-own_goes_on timed revokes s before S P T cpu ec sc c own works within = next_partitioned s before S P T cpu c on none_made
+pub own_goes_by : (timed : Type 0) (s : Scenario) (before : List ℕ) (S P : ℕ → Bool) (T : ℕ → Type 0) (cpu ec sc : ℕ) → IsPartitioned (run (boot s) before) (Of S) T (Of P) →
+    own_turn S (run (boot s) before) cpu ≡ Some (ec, sc) →
+    IsOwnDeed timed (false ≡ true) (run (boot s) before) (Of S) (Of P) (deed (run (boot s) before) ec) → IsPartitioned (after (run (boot s) before) cpu) (Of S) (more (run (boot s) before) T cpu) (Of P)
+own_goes_by timed s before S P T cpu ec sc c own mine = next_partitioned s before S P T cpu c on none_made
   where
     k : KernelState
     k = run (boot s) before
@@ -83,9 +84,6 @@ own_goes_on timed revokes s before S P T cpu ec sc c own works within = next_par
     d : Deed
     d = deed (run (boot s) before) ec
 
-    mine : IsOwnDeed timed (run (boot s) before) (Of S) (Of P) (deed (run (boot s) before) ec)
-    mine = own_at timed (revokes ≡ true) S P T k cpu ec sc sound c own works within
-
     is : after (run (boot s) before) cpu ≡ turned (run (boot s) before) cpu (by_deed (run (boot s) before) ec sc (deed (run (boot s) before) ec) (is_stirred (run (boot s) before) ec (deed (run (boot s) before) ec)))
     is = own_turned S k cpu ec sc its
 
@@ -93,12 +91,12 @@ own_goes_on timed revokes s before S P T cpu ec sc c own works within = next_par
     delegations = ap (λ (l : KernelState). l.delegations) is
 
     objects : (after (run (boot s) before) cpu).objects ≡ (run (boot s) before).objects
-    objects = ap (λ (l : KernelState). l.objects) is ∙ unjoined k.objects object_of (made_by d) (first_made timed k (Of S) (Of P) d mine)
+    objects = ap (λ (l : KernelState). l.objects) is ∙ unjoined k.objects object_of (made_by d) (first_made timed (false ≡ true) k (Of S) (Of P) d never mine)
 
     side : IsSide (after (run (boot s) before) cpu) (Of S) (Of P)
-    side = subst (λ (l : KernelState). IsSide l (Of S) (Of P)) (sym is) (own_turned_side timed k (Of S) (Of P) c.side sound.forest cpu ec sc p d mine (is_stirred k ec d))
+    side = subst (λ (l : KernelState). IsSide l (Of S) (Of P)) (sym is) (own_turned_side timed (false ≡ true) k (Of S) (Of P) c.side sound.forest (λ h. absurd (never h)) cpu ec sc p d mine (is_stirred k ec d))
 
-    by_own : IsOwnDeed timed (run (boot s) before) (Of S) (Of P) (deed (run (boot s) before) ec) → GoesOn (run (boot s) before) (after (run (boot s) before) cpu) (Of S) (Of P)
+    by_own : IsOwnDeed timed (false ≡ true) (run (boot s) before) (Of S) (Of P) (deed (run (boot s) before) ec) → GoesOn (run (boot s) before) (after (run (boot s) before) cpu) (Of S) (Of P)
     by_own (Alone own) =
         let same = delegations ∙ ap (λ (o : Option Branch). branched k.delegations o) (branch_none timed k (Of P) ec d own) in
         kept_on k (after k cpu) (Of S) (Of P) side (λ e there s_pd. subst (λ (f : Delegations). Contains f.list e) same there)
@@ -130,6 +128,7 @@ own_goes_on timed revokes s before S P T cpu ec sc c own works within = next_par
             its = refl;
           };
         }
+    by_own (New call target made makes creates of) = absurd (never creates)
 
     on : GoesOn (run (boot s) before) (after (run (boot s) before) cpu) (Of S) (Of P)
     on = by_own mine
@@ -139,40 +138,46 @@ own_goes_on timed revokes s before S P T cpu ec sc c own works within = next_par
         let at : slice_get k.objects n ≡ Some Pd = sym (ap (λ (os : List Object). slice_get os n) objects) ∙ made.made in
         let below = slice_get_within k.objects n Pd at in let number = made.number in omega (arith, below, number)
 
+pub own_goes_on : (timed : Type 0) (revokes : Bool) (s : Scenario) (before : List ℕ) (S P : ℕ → Bool) (T : ℕ → Type 0) (cpu ec sc : ℕ) → IsPartitioned (run (boot s) before) (Of S) T (Of P) →
+    own_turn S (run (boot s) before) cpu ≡ Some (ec, sc) → IsAtWork timed (RevokesNothing (run (boot s) before) (Of S)) (revokes ≡ true) (false ≡ true) (run (boot s) before) ec →
+    (revokes ≡ true → DerivesWithin (run (boot s) before) (Of S)) → IsPartitioned (after (run (boot s) before) cpu) (Of S) (more (run (boot s) before) T cpu) (Of P)
+own_goes_on timed revokes s before S P T cpu ec sc c own works within =
+    own_goes_by timed s before S P T cpu ec sc c own (own_at timed (revokes ≡ true) (false ≡ true) S P T (run (boot s) before) cpu ec sc (reached_sound s before) c own works within)
+
 -- and nothing of others is made of what the side holds
 pub own_derives_on : (timed : Type 0) (s : Scenario) (before : List ℕ) (S P : ℕ → Bool) (T : ℕ → Type 0) (cpu ec sc : ℕ) (revokes : Bool) → IsPartitioned (run (boot s) before) (Of S) T (Of P) →
-    own_turn S (run (boot s) before) cpu ≡ Some (ec, sc) → IsAtWork timed (RevokesNothing (run (boot s) before) (Of S)) (revokes ≡ true) (run (boot s) before) ec →
+    own_turn S (run (boot s) before) cpu ≡ Some (ec, sc) → IsAtWork timed (RevokesNothing (run (boot s) before) (Of S)) (revokes ≡ true) (false ≡ true) (run (boot s) before) ec →
     (revokes ≡ true → DerivesWithin (run (boot s) before) (Of S)) → revokes ≡ true → DerivesWithin (after (run (boot s) before) cpu) (Of S)
 own_derives_on timed s before S P T cpu ec sc revokes c own works within may =
     let k = run (boot s) before in
     let sound = reached_sound s before in
-    own_derives timed k (after k cpu) (Of S) (Of P) sound.forest ec (deed k ec) (own_at timed (revokes ≡ true) S P T k cpu ec sc sound c own works within)
+    own_derives timed (false ≡ true) k (after k cpu) (Of S) (Of P) sound.forest ec (deed k ec) (own_at timed (revokes ≡ true) (false ≡ true) S P T k cpu ec sc sound c own works within)
     (ap (λ (l : KernelState). l.delegations) (own_turned S k cpu ec sc (own_is S k cpu ec sc own))) (within may)
 
 -- without a deadline it comes to none
 pub own_timeless : (s : Scenario) (before : List ℕ) (S P : ℕ → Bool) (T : ℕ → Type 0) (cpu ec sc : ℕ) (revokes : Bool) → IsPartitioned (run (boot s) before) (Of S) T (Of P) → IsTimeless (run (boot s) before) (Of P) →
-    own_turn S (run (boot s) before) cpu ≡ Some (ec, sc) → IsAtWork ⊥ (RevokesNothing (run (boot s) before) (Of S)) (revokes ≡ true) (run (boot s) before) ec → (revokes ≡ true → DerivesWithin (run (boot s) before) (Of S)) →
+    own_turn S (run (boot s) before) cpu ≡ Some (ec, sc) → IsAtWork ⊥ (RevokesNothing (run (boot s) before) (Of S)) (revokes ≡ true) (false ≡ true) (run (boot s) before) ec → (revokes ≡ true → DerivesWithin (run (boot s) before) (Of S)) →
     (n : ℕ) → P n ≡ true → deadline_of (after (run (boot s) before) cpu).times n ≡ None
 own_timeless s before S P T cpu ec sc revokes c timeless own works within n q =
     let k = run (boot s) before in
     let sound = reached_sound s before in
     let its = own_is S k cpu ec sc own in
     let d = deed k ec in
-    let mine = own_at ⊥ (revokes ≡ true) S P T k cpu ec sc sound c own works within in
+    let mine = own_at ⊥ (revokes ≡ true) (false ≡ true) S P T k cpu ec sc sound c own works within in
     ap (λ (l : KernelState). deadline_of l.times n) (own_turned S k cpu ec sc its)
-    ∙ ap (λ (ds : List (Option Deadline)). entry (slice_get ds n)) (unjoined (deadlines_with k.times.deadlines (deadline_by ec d)) no_deadline (made_by d) (first_made ⊥ k (Of S) (Of P) d mine))
+    ∙ ap (λ (ds : List (Option Deadline)). entry (slice_get ds n)) (unjoined (deadlines_with k.times.deadlines (deadline_by ec d)) no_deadline (made_by d) (first_made ⊥ (false ≡ true) k (Of S) (Of P) d never mine))
     ∙ undated k.times.deadlines (deadline_by ec d) n (own_no_date k (Of S) (Of P) ec d mine) (timeless.deadlines n q)
 
 -- ALONG TURNS
 
 pub left_along : (revokes : Bool) (s : Scenario) (before turns : List ℕ) (S P : ℕ → Bool) (T : ℕ → Type 0) → IsPartitioned (run (boot s) before) (Of S) T (Of P) → IsTimeless (run (boot s) before) (Of P) →
-    (revokes ≡ true → DerivesWithin (run (boot s) before) (Of S)) → AreAtWorkTimeless revokes S (run (boot s) before) turns → AreLeftAlone revokes S P (run (boot s) before) turns
+    (revokes ≡ true → DerivesWithin (run (boot s) before) (Of S)) → AreAtWorkTimeless (fixed revokes) S (run (boot s) before) turns → AreLeftAlone revokes S P (run (boot s) before) turns
 left_along revokes s before [] S P T c timeless within works = tt
 left_along revokes s before (cpu ∷ turns) S P T c timeless within works = (
   others_leave_alone s before S P T cpu c timeless,
   λ ec sc own gives. within_partition S P T k cpu ec sc (reached_sound s before) c own gives (works.0 ec sc own).state ((works.0 ec sc own).gives gives),
   within,
-  by_own (own_turn S k cpu) refl (λ later untimed stays. subst (λ (l : KernelState). AreAtWorkTimeless revokes S l turns → AreLeftAlone revokes S P l turns) next
+  by_own (own_turn S k cpu) refl (λ later untimed stays. subst (λ (l : KernelState). AreAtWorkTimeless (fixed revokes) S l turns → AreLeftAlone revokes S P l turns) next
       (left_along revokes s (before ++ cpu ∷ []) turns S P (more k T cpu) (subst (λ (l : KernelState). IsPartitioned l (Of S) (more k T cpu) (Of P)) (sym next) later)
       (subst (λ (l : KernelState). IsTimeless l (Of P)) (sym next) untimed) (subst (λ (l : KernelState). revokes ≡ true → DerivesWithin l (Of S)) (sym next) stays)) works.1),
 )

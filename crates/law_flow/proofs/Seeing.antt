@@ -225,6 +225,13 @@ reach_same k l S P a pd page s =
     page_held page (find (covers Mem pd page) l.delegations.list) ∙ ap (option_map (page_by page)) (a.spaces Mem pd page s)
     ∙ sym (page_held page (find (covers Mem pd page) k.delegations.list))
 
+-- where one is found in one list, one is in another in which the same is held
+pub some_held : (o p : Option Derivation) → ◌≡◌ {A = Option Held} (option_map held_by o) (option_map held_by p) → is_some o ≡ is_some p
+some_held None None h = refl
+some_held None (Some d) h = absurd (cc)
+some_held (Some d) None h = absurd (cc)
+some_held (Some d) (Some e) h = refl
+
 -- WHAT A SELECTOR NAMES
 
 -- a capability of the side's leads to the side

@@ -6,7 +6,7 @@ use Rattle.nova_objects.specs.declared.object.Object.{Object}
 use Rattle.nova_objects.specs.declared.object.Object.TheVariants.{Pd, Ec, Sc, Pt, Sm}
 use Rattle.nova_model.specs.Delegations.{Delegations, is_child_of, is_id, parent_of, with_id, without}
 use Rattle.nova_model.specs.Forest.{IsChildless, IsForest}
-use Rattle.nova_model.specs.Lines.{line_by}
+use Rattle.nova_model.specs.Lines.{line, line_by}
 use Rattle.nova_model.specs.State.{KernelState}
 use Rattle.nova_model.specs.declared.context.State.{State}
 use Rattle.nova_model.specs.declared.context.State.TheVariants.{Blocked, Dead, Parked}
@@ -50,6 +50,10 @@ line_kept list other keeps (suc n) d i =
     by_parent None is rest = line_none n other ∙ sym (line_none n list)
     by_parent (Some p) is rest = rest p (parent_found list d p is).0
 
+-- what is made of nothing is alone in its line
+pub line_alone : (list : List Derivation) (x : Derivation) → x.parent ≡ None → line list x ≡ x ∷ []
+line_alone list x none = ap (λ (o : Option ℕ). x ∷ line_by x.id list (option_and_then (with_id list) o)) none ∙ ap (λ (l : List Derivation). x ∷ l) (line_none x.id list)
+
 pub line_in : (list : List Derivation) (n : ℕ) (d a : Derivation) → IsIn list d → IsIn (line_by n list (Some d)) a → IsIn list a
 line_in list zero d a i above = absurd above
 line_in list (suc n) d a i (inl same) = subst (IsIn list) same i
@@ -86,7 +90,7 @@ holds_as k S R to right object h = record { capability = h.capability; there = h
 any_as : (k : KernelState) (S R : ℕ → Type 0) → ((n : ℕ) → S n → R n) → (object : ℕ) → HoldsAny k S object → HoldsAny k R object
 any_as k S R to object h = record { capability = h.capability; there = h.there; of = to h.capability.pd h.of; kind = h.kind; leads = h.leads }
 
-owned_as : (k : KernelState) (S R : ℕ → Type 0) → ((n : ℕ) → S n → R n) → (n : ℕ) (o : Option Object) → IsOwned k S n o → IsOwned k R n o
+pub owned_as : (k : KernelState) (S R : ℕ → Type 0) → ((n : ℕ) → S n → R n) → (n : ℕ) (o : Option Object) → IsOwned k S n o → IsOwned k R n o
 owned_as k S R to n (Some Pd) s = to n s
 owned_as k S R to n (Some (Ec pd cpu kind event)) s = to pd s
 owned_as k S R to n (Some (Pt handler mtd ip)) s = member_as k S R to handler s

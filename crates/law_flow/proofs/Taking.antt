@@ -187,10 +187,20 @@ derived_kept k l m n S mine its a = record {
 abbrev Was : KernelState → KernelState → (ℕ → Type 0) → Derivation → Derivation → Derivation → Derivation → Type 0
 Was k l S child twin c e = IsSameRange k l S c e ⊎ ((c ≡ child) × (e ≡ twin))
 
--- and where it gains one
-pub derived_joined : (k l m n : KernelState) (S : ℕ → Type 0) → IsForest k.delegations → IsForest l.delegations → IsForest m.delegations → IsForest n.delegations → (child twin : Derivation) → IsTwin child twin →
-    (part : IsPart k S child) (also : IsPart l S twin) → IsTwin part.source also.source → m.delegations ≡ added k.delegations child → n.delegations ≡ added l.delegations twin → AreDerivedAlike k l S → AreDerivedAlike m n S
-derived_joined k l m n S first second third fourth child twin t part also from one other a = record {
+-- and where it gains one, which is made of the same in both, or of nothing
+pub record AreMadeAlike (k l : KernelState) (S : ℕ → Type 0) (child twin : Derivation) : Type 0 where
+  pub first : IsForest k.delegations
+  pub second : IsForest l.delegations
+  pub of : S child.pd
+  pub id : child.id ≡ k.delegations.next
+  pub twin_id : twin.id ≡ l.delegations.next
+  pub twins : IsTwin child twin
+  pub parents : (d f : Derivation) → IsSameRange k l S d f → is_child_of f.id twin ≡ is_child_of d.id child
+  pub itself : is_child_of twin.id twin ≡ is_child_of child.id child
+
+pub derived_more : (k l m n : KernelState) (S : ℕ → Type 0) → IsForest m.delegations → IsForest n.delegations → (child twin : Derivation) → AreMadeAlike k l S child twin →
+    m.delegations ≡ added k.delegations child → n.delegations ≡ added l.delegations twin → AreDerivedAlike k l S → AreDerivedAlike m n S
+derived_more k l m n S third fourth child twin made one other a = record {
   children = λ c d e f u v. children c d e f (split c e u) (split d f v);
   order = λ c d e f u v. order c d e f (split c e u) (split d f v);
 }
@@ -202,10 +212,10 @@ derived_joined k l m n S first second third fourth child twin t part also from o
     its e there = in_joined l.delegations.list twin e (subst (λ (f : Delegations). IsIn f.list e) other (in_from_contains n.delegations.list e there))
 
     old_child : (d : Derivation) → IsIn k.delegations.list d → d.id < child.id
-    old_child d i = let below = all_at (λ b. b.id < k.delegations.next) k.delegations.list d first.numbered i in let id = part.fits.id in omega (arith, below, id)
+    old_child d i = let below = all_at (λ b. b.id < k.delegations.next) k.delegations.list d made.first.numbered i in let id = made.id in omega (arith, below, id)
 
     old_twin : (e : Derivation) → IsIn l.delegations.list e → e.id < twin.id
-    old_twin e i = let below = all_at (λ b. b.id < l.delegations.next) l.delegations.list e second.numbered i in let id = also.fits.id in omega (arith, below, id)
+    old_twin e i = let below = all_at (λ b. b.id < l.delegations.next) l.delegations.list e made.second.numbered i in let id = made.twin_id in omega (arith, below, id)
 
     pair : (c e : Derivation) → IsSameRange m n S c e → c ≡ child → IsSameRange m n S child e
     pair c e u same = subst (λ (d : Derivation). IsSameRange m n S d e) same u
@@ -216,11 +226,11 @@ derived_joined k l m n S first second third fourth child twin t part also from o
     -- the pair that joined
     the_pair : IsSameRange m n S child twin
     the_pair = record {
-      of = part.to;
+      of = made.of;
       first = subst (λ (f : Delegations). Contains f.list child) (sym one) (last_in k.delegations child);
       second = subst (λ (f : Delegations). Contains f.list twin) (sym other) (last_in l.delegations twin);
-      pd = t.pd;
-      held = t.held;
+      pd = made.twins.pd;
+      held = made.twins.held;
     }
 
     split : (c e : Derivation) → IsSameRange m n S c e → Was k l S child twin c e
@@ -236,44 +246,21 @@ derived_joined k l m n S first second third fourth child twin t part also from o
               same,
             )
 
-    source_there : IsSameRange k l S part.source also.source
-    source_there = record { of = part.of; first = contains_from_in k.delegations.list part.source part.there; second = contains_from_in l.delegations.list also.source also.there; pd = from.pd; held = from.held }
-
-    -- it is made of the same in both
-    of_child : (d f : Derivation) → IsSameRange k l S d f → is_child_of f.id twin ≡ is_child_of d.id child
-    of_child d f v =
-        ap (is_id f.id) also.parent
-        ∙ both_so (part.source.id == d.id) (also.source.id == f.id)
-        (λ h.
-        let same : part.source ≡ d = same_id k.delegations.list part.source d first.rising part.there (in_from_contains k.delegations.list d v.first) (eqb-true part.source.id d.id h) in
-        eq-eqb also.source.id f.id (ap (λ (x : Derivation). x.id) (one_range k l S second part.source also.source f source_there (subst (λ (x : Derivation). IsSameRange k l S x f) (sym same) v))))
-        (λ h.
-        let same : also.source ≡ f = same_id l.delegations.list also.source f second.rising also.there (in_from_contains l.delegations.list f v.second) (eqb-true also.source.id f.id h) in
-        eq-eqb part.source.id d.id (ap (λ (x : Derivation). x.id) (one_range l k S first also.source part.source d (range_flipped k l S part.source also.source source_there)
-        (subst (λ (x : Derivation). IsSameRange l k S x d) (sym same) (range_flipped k l S d f v)))))
-        ∙ sym (ap (is_id d.id) part.parent)
-
     -- and nothing is made of it
     under_child : (c : Derivation) → IsIn k.delegations.list c → is_child_of child.id c ≡ false
-    under_child c i = all_at (λ (a : Derivation). is_child_of child.id a ≡ false) k.delegations.list c (subst (IsChildless k.delegations.list) (sym part.fits.id) (next_childless k.delegations first)) i
+    under_child c i = all_at (λ (a : Derivation). is_child_of child.id a ≡ false) k.delegations.list c (subst (IsChildless k.delegations.list) (sym made.id) (next_childless k.delegations made.first)) i
 
     under_twin : (e : Derivation) → IsIn l.delegations.list e → is_child_of twin.id e ≡ false
-    under_twin e i = all_at (λ (a : Derivation). is_child_of twin.id a ≡ false) l.delegations.list e (subst (IsChildless l.delegations.list) (sym also.fits.id) (next_childless l.delegations second)) i
-
-    itself : is_child_of twin.id twin ≡ is_child_of child.id child
-    itself =
-        let mine_older = part.within.older in
-        let its_older = also.within.older in
-        ap (is_id twin.id) also.parent ∙ ne_eqb also.source.id twin.id (λ e. omega (arith, its_older, e)) ∙ sym (ap (is_id child.id) part.parent ∙ ne_eqb part.source.id child.id (λ e. omega (arith, mine_older, e)))
+    under_twin e i = all_at (λ (a : Derivation). is_child_of twin.id a ≡ false) l.delegations.list e (subst (IsChildless l.delegations.list) (sym made.twin_id) (next_childless l.delegations made.second)) i
 
     children : (c d e f : Derivation) → Was k l S child twin c e → Was k l S child twin d f → is_child_of f.id e ≡ is_child_of d.id c
     children c d e f (inl u) (inl v) = a.children c d e f u v
-    children c d e f (inr u) (inl v) = ap (is_child_of f.id) u.1 ∙ of_child d f v ∙ sym (ap (is_child_of d.id) u.0)
+    children c d e f (inr u) (inl v) = ap (is_child_of f.id) u.1 ∙ made.parents d f v ∙ sym (ap (is_child_of d.id) u.0)
     children c d e f (inl u) (inr v) =
         ap (λ (x : Derivation). is_child_of x.id e) v.1 ∙ under_twin e (in_from_contains l.delegations.list e u.second)
         ∙ sym (ap (λ (x : Derivation). is_child_of x.id c) v.0 ∙ under_child c (in_from_contains k.delegations.list c u.first))
     children c d e f (inr u) (inr v) =
-        ap₂ (λ (x y : Derivation). is_child_of y.id x) u.1 v.1 ∙ itself ∙ sym (ap₂ (λ (x y : Derivation). is_child_of y.id x) u.0 v.0)
+        ap₂ (λ (x y : Derivation). is_child_of y.id x) u.1 v.1 ∙ made.itself ∙ sym (ap₂ (λ (x y : Derivation). is_child_of y.id x) u.0 v.0)
 
     order : (c d e f : Derivation) → Was k l S child twin c e → Was k l S child twin d f → nat_lt e.id f.id ≡ nat_lt c.id d.id
     order c d e f (inl u) (inl v) = a.order c d e f u v
@@ -293,6 +280,34 @@ derived_joined k l m n S first second third fourth child twin t part also from o
         let first_false : nat_lt child.id child.id ≡ false = grind arith in
         let second_false : nat_lt twin.id twin.id ≡ false = grind arith in
         ap₂ (λ (x y : Derivation). nat_lt x.id y.id) u.1 v.1 ∙ second_false ∙ sym (ap₂ (λ (x y : Derivation). nat_lt x.id y.id) u.0 v.0 ∙ first_false)
+
+pub derived_joined : (k l m n : KernelState) (S : ℕ → Type 0) → IsForest k.delegations → IsForest l.delegations → IsForest m.delegations → IsForest n.delegations → (child twin : Derivation) → IsTwin child twin →
+    (part : IsPart k S child) (also : IsPart l S twin) → IsTwin part.source also.source → m.delegations ≡ added k.delegations child → n.delegations ≡ added l.delegations twin → AreDerivedAlike k l S → AreDerivedAlike m n S
+derived_joined k l m n S first second third fourth child twin t part also from one other a =
+    derived_more k l m n S third fourth child twin (record { first = first; second = second; of = part.to; id = part.fits.id; twin_id = also.fits.id; twins = t; parents = of_child; itself = itself }) one other a
+  where
+    source_there : IsSameRange k l S part.source also.source
+    source_there = record { of = part.of; first = contains_from_in k.delegations.list part.source part.there; second = contains_from_in l.delegations.list also.source also.there; pd = from.pd; held = from.held }
+
+    -- it is made of the same in both
+    of_child : (d f : Derivation) → IsSameRange k l S d f → is_child_of f.id twin ≡ is_child_of d.id child
+    of_child d f v =
+        ap (is_id f.id) also.parent
+        ∙ both_so (part.source.id == d.id) (also.source.id == f.id)
+        (λ h.
+        let same : part.source ≡ d = same_id k.delegations.list part.source d first.rising part.there (in_from_contains k.delegations.list d v.first) (eqb-true part.source.id d.id h) in
+        eq-eqb also.source.id f.id (ap (λ (x : Derivation). x.id) (one_range k l S second part.source also.source f source_there (subst (λ (x : Derivation). IsSameRange k l S x f) (sym same) v))))
+        (λ h.
+        let same : also.source ≡ f = same_id l.delegations.list also.source f second.rising also.there (in_from_contains l.delegations.list f v.second) (eqb-true also.source.id f.id h) in
+        eq-eqb part.source.id d.id (ap (λ (x : Derivation). x.id) (one_range l k S first also.source part.source d (range_flipped k l S part.source also.source source_there)
+        (subst (λ (x : Derivation). IsSameRange l k S x d) (sym same) (range_flipped k l S d f v)))))
+        ∙ sym (ap (is_id d.id) part.parent)
+
+    itself : is_child_of twin.id twin ≡ is_child_of child.id child
+    itself =
+        let mine_older = part.within.older in
+        let its_older = also.within.older in
+        ap (is_id twin.id) also.parent ∙ ne_eqb also.source.id twin.id (λ e. omega (arith, its_older, e)) ∙ sym (ap (is_id child.id) part.parent ∙ ne_eqb part.source.id child.id (λ e. omega (arith, mine_older, e)))
 
 pub still_there : (list : List Derivation) (x d : Derivation) → IsIn list d → IsIn (list ++ x ∷ []) d
 still_there [] x d i = absurd i

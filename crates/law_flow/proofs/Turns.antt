@@ -21,7 +21,9 @@ use Rattle.nova_model.specs.declared.context.EcState.{EcState}
 use Rattle.nova_model.specs.declared.deed.Deed.{Deed}
 use Rattle.nova_model.specs.declared.log.LogByte.{LogByte}
 use Rattle.nova_model.specs.Memory.{Memory}
-use Rattle.law_forest.specs.Effects.{memory_with, store_by}
+use Rattle.nova_model.specs.Creation.{object_of}
+use Rattle.nova_model.specs.declared.new_object.NewObject.{NewObject}
+use Rattle.law_forest.specs.Effects.{joined, made_by, memory_with, store_by}
 use Rattle.law_forest.specs.Turns.{turned}
 use Rattle.law_forest.proofs.Turning.{chosen_turn}
 use Rattle.law_turns.proofs.Serving.{actor_of}
@@ -31,10 +33,12 @@ use Rattle.law_isolation.proofs.Runs.{turn_sound}
 use Rattle.law_origins.specs.Giving.{Acts}
 use Rattle.law_origins.proofs.Actors.{is_able}
 use Rattle.law_integrity.specs.Confined.{Of}
-use Rattle.law_flow.specs.Flow.{AreAlike, AreDerivedAlike, AreGivingWithin, AreLeftAlone, AreRevokingWithin, DerivesWithin, AreAtWorkTimeless, GivesWithin, HasSameClock, IsSide, IsAtWork, IsCallAtWork, IsGivingWithin, RevokesNothing, if_own, gain_for, own_bytes, own_deeds, own_turn, schedule, unnumbered}
+use Rattle.law_flow.specs.Flow.{AreAlike, AreCreatingAlone, AreDerivedAlike, AreGivingWithin, AreLeftAlone, AreRevokingWithin, DerivesWithin, AreAtWorkTimeless, GivesWithin, HasSameClock, IsSide, IsAtWork, IsCallAtWork, IsGivingWithin, RevokesNothing, Work, if_own, gain_for, own_bytes, own_deeds, own_turn, schedule, unnumbered}
 use Rattle.law_flow.proofs.Seeing.{Both, context_same, reach_same}
+use Rattle.law_flow.proofs.Creating.{AreMaking}
 use Rattle.law_flow.proofs.Doing.{by_deed, memory_same}
-use Rattle.law_flow.proofs.Pairs.{AreOwn, first_own, own_both, own_turned_alike, own_turned_side, pair_derived, same_unnumbered, store_so}
+use Rattle.law_flow.proofs.Numbers.{left_numbers, numbers_kept, numbers_left}
+use Rattle.law_flow.proofs.Pairs.{AreOwn, first_own, own_both, own_turned_alike, own_turned_side, pair_derived, same_made, same_unnumbered, store_so}
 use Rattle.law_flow.proofs.Taking.{derived_kept, left_gains}
 
 -- THE SAME PART
@@ -151,24 +155,52 @@ pub record AreTwins (k l : KernelState) (S P : ℕ → Bool) : Type 0 where
 pub both : (k l : KernelState) (S P : ℕ → Bool) → AreTwins k l S P → Both k l (Of S) (Of P)
 both k l S P t = record { side = t.side; alike = t.alike; first = t.first.kept.edges; second = t.second.kept.edges }
 
-pub own_of : (k l : KernelState) (S P : ℕ → Bool) (cpu ec sc : ℕ) → AreTwins k l S P → own_turn S k cpu ≡ Some (ec, sc) → IsAtWork (HasSameClock k l ec) (AreGivingWithin k l (Of S) ec) (AreRevokingWithin k l (Of S)) k ec →
-    AreOwn (HasSameClock k l ec) k l (Of S) (Of P) (deed k ec) (deed l ec)
+-- of a down with a deadline, where items are given, of a revoke and of a create something else may be asked
+pub call_as : (timed other revoking taking creating making : Type 0) (o : Result Call Status) → (timed → other) → (revoking → taking) → (creating → making) → IsCallAtWork timed revoking creating o →
+    IsCallAtWork other taking making o
+call_as timed other revoking taking creating making (Ok (asks.SmCtrl sm (act.DownWithin ticks))) f g m h = f h
+call_as timed other revoking taking creating making (Ok (asks.Revoke range own)) f g m h = g h
+call_as timed other revoking taking creating making (Ok (asks.CreatePd target pd None)) f g m h = m h
+call_as timed other revoking taking creating making (Ok (asks.CreatePd target pd (Some first))) f g m h = absurd h
+call_as timed other revoking taking creating making (Ok (asks.CreateEc target pd cpu kind sp event)) f g m h = m h
+call_as timed other revoking taking creating making (Ok (asks.CreateSc target pd whose quantum priority)) f g m h = m h
+call_as timed other revoking taking creating making (Ok (asks.CreatePt target pd handler mtd ip)) f g m h = m h
+call_as timed other revoking taking creating making (Ok (asks.CreateSm target pd count)) f g m h = m h
+call_as timed other revoking taking creating making any f g m h = h
+
+pub work_as : (timed other giving within revoking taking creating making : Type 0) (k : KernelState) (ec : ℕ) → (timed → other) → (is_giving (context k ec).state ≡ true → giving → within) → (revoking → taking) → (creating → making) →
+    IsAtWork timed giving revoking creating k ec → IsAtWork other within taking making k ec
+work_as timed other giving within revoking taking creating making k ec f g h m works = record {
+  state = works.state;
+  calls = λ asking. call_as timed other revoking taking creating making (call_of (context k ec).regs) f h m (works.calls asking);
+  gives = λ is. g is (works.gives is);
+  revokes = λ is. h (works.revokes is);
+}
+
+making : (k l : KernelState) (S P : ℕ → Bool) → AreTwins k l S P → AreCreatingAlone k l (Of S) (Of P) → AreMaking k l (Of S) (Of P)
+making k l S P t alone = record { alone = alone; first = t.first.kept.tables; second = t.second.kept.tables }
+
+pub own_of : (k l : KernelState) (S P : ℕ → Bool) (cpu ec sc : ℕ) → AreTwins k l S P → own_turn S k cpu ≡ Some (ec, sc) →
+    IsAtWork (HasSameClock k l ec) (AreGivingWithin k l (Of S) ec) (AreRevokingWithin k l (Of S)) (AreCreatingAlone k l (Of S) (Of P)) k ec →
+    AreOwn (HasSameClock k l ec) (AreMaking k l (Of S) (Of P)) k l (Of S) (Of P) (deed k ec) (deed l ec)
 own_of k l S P cpu ec sc t own works =
     let its = own_is S k cpu ec sc own in
-    own_both k l (Of S) (Of P) (both k l S P t) t.first.forest t.second.forest ec (own_there S k (Of P) cpu ec sc t.first t.side its) its.of works
+    own_both k l (Of S) (Of P) (both k l S P t) t.first.forest t.second.forest ec (own_there S k (Of P) cpu ec sc t.first t.side its) its.of
+    (work_as (HasSameClock k l ec) (HasSameClock k l ec) (AreGivingWithin k l (Of S) ec) (AreGivingWithin k l (Of S) ec) (AreRevokingWithin k l (Of S)) (AreRevokingWithin k l (Of S)) (AreCreatingAlone k l (Of S) (Of P))
+    (AreMaking k l (Of S) (Of P)) k ec (λ same. same) (λ is within. within) (λ within. within) (making k l S P t) works)
 
-pub decided : (k l : KernelState) (S P : ℕ → Bool) (cpu ec sc : ℕ) → AreTwins k l S P → own_turn S k cpu ≡ Some (ec, sc) → IsAtWork (HasSameClock k l ec) (AreGivingWithin k l (Of S) ec) (AreRevokingWithin k l (Of S)) k ec → unnumbered (deed l ec) ≡ unnumbered (deed k ec)
-decided k l S P cpu ec sc t own works = same_unnumbered (HasSameClock k l ec) k l (Of S) (Of P) (deed k ec) (deed l ec) (own_of k l S P cpu ec sc t own works)
+pub decided : (k l : KernelState) (S P : ℕ → Bool) (cpu ec sc : ℕ) → AreTwins k l S P → own_turn S k cpu ≡ Some (ec, sc) → IsAtWork (HasSameClock k l ec) (AreGivingWithin k l (Of S) ec) (AreRevokingWithin k l (Of S)) (AreCreatingAlone k l (Of S) (Of P)) k ec → unnumbered (deed l ec) ≡ unnumbered (deed k ec)
+decided k l S P cpu ec sc t own works = same_unnumbered (HasSameClock k l ec) (AreMaking k l (Of S) (Of P)) k l (Of S) (Of P) (deed k ec) (deed l ec) (own_of k l S P cpu ec sc t own works)
 
 pub own_alike : (k l : KernelState) (S P : ℕ → Bool) (cpu other ec sc : ℕ) → AreTwins k l S P → own_turn S k cpu ≡ Some (ec, sc) → own_turn S l other ≡ Some (ec, sc) →
-    IsAtWork (HasSameClock k l ec) (AreGivingWithin k l (Of S) ec) (AreRevokingWithin k l (Of S)) k ec → AreAlike (after k cpu) (after l other) (Of S) (Of P)
+    IsAtWork (HasSameClock k l ec) (AreGivingWithin k l (Of S) ec) (AreRevokingWithin k l (Of S)) (AreCreatingAlone k l (Of S) (Of P)) k ec → AreAlike (after k cpu) (after l other) (Of S) (Of P)
 own_alike k l S P cpu other ec sc t own also works =
     let its = own_is S k cpu ec sc own in
     let b = both k l S P t in
     let p = own_there S k (Of P) cpu ec sc t.first t.side its in
     subst (λ (s : KernelState). AreAlike s (after l other) (Of S) (Of P)) (sym (own_turned S k cpu ec sc its))
     (subst (λ (s : KernelState). AreAlike (turned k cpu (by_deed k ec sc (deed k ec) (is_stirred k ec (deed k ec)))) s (Of S) (Of P)) (sym (own_turned S l other ec sc (own_is S l other ec sc also)))
-    (own_turned_alike (HasSameClock k l ec) k l (Of S) (Of P) b t.first.forest t.second.forest cpu other ec sc p its.of (deed k ec) (deed l ec) (own_of k l S P cpu ec sc t own works) (is_stirred k ec (deed k ec)) (is_stirred l ec (deed l ec))))
+    (own_turned_alike (HasSameClock k l ec) (AreMaking k l (Of S) (Of P)) k l (Of S) (Of P) b t.first.forest t.second.forest (λ m. m) cpu other ec sc p its.of (deed k ec) (deed l ec) (own_of k l S P cpu ec sc t own works) (is_stirred k ec (deed k ec)) (is_stirred l ec (deed l ec))))
 
 -- what it stores to consoles is the same
 drop_all : (xs ys : List LogByte) → drop (length xs) (xs ++ ys) ≡ ys
@@ -179,12 +211,12 @@ gained_is : (m later : Memory) (gained : List LogByte) → later.log ≡ m.log +
 gained_is m later gained is = ap (drop (length m.log)) is ∙ drop_all m.log gained
 
 pub own_gains : (k l : KernelState) (S P : ℕ → Bool) (cpu other ec sc : ℕ) → AreTwins k l S P → own_turn S k cpu ≡ Some (ec, sc) → own_turn S l other ≡ Some (ec, sc) →
-    IsAtWork (HasSameClock k l ec) (AreGivingWithin k l (Of S) ec) (AreRevokingWithin k l (Of S)) k ec → gain_for l other (Some (ec, sc)) ≡ gain_for k cpu (Some (ec, sc))
+    IsAtWork (HasSameClock k l ec) (AreGivingWithin k l (Of S) ec) (AreRevokingWithin k l (Of S)) (AreCreatingAlone k l (Of S) (Of P)) k ec → gain_for l other (Some (ec, sc)) ≡ gain_for k cpu (Some (ec, sc))
 own_gains k l S P cpu other ec sc t own also works =
     let its = own_is S k cpu ec sc own in
     let b = both k l S P t in
     let p = own_there S k (Of P) cpu ec sc t.first t.side its in
-    let same = store_so (HasSameClock k l ec) k l l (Of S) (Of P) ec (deed k ec) (deed l ec) (own_of k l S P cpu ec sc t own works) in
+    let same = store_so (HasSameClock k l ec) (AreMaking k l (Of S) (Of P)) k l l (Of S) (Of P) ec (deed k ec) (deed l ec) (own_of k l S P cpu ec sc t own works) in
     let stores = (memory_same k l (Of S) (Of P) b ec p its.of (deed k ec)).gains in
     let ours : (after k cpu).memory ≡ memory_with k.memory (store_by k ec (deed k ec)) = ap (λ (s : KernelState). s.memory) (own_turned S k cpu ec sc its) in
     let theirs : (after l other).memory ≡ memory_with l.memory (store_by l ec (deed k ec)) =
@@ -193,44 +225,31 @@ own_gains k l S P cpu other ec sc t own also works =
     ∙ sym (ap (λ (m : Memory). drop (length k.memory.log) m.log) ours ∙ gained_is k.memory (memory_with k.memory (store_by k ec (deed k ec))) stores.gained stores.first)
 
 pub own_side : (k l : KernelState) (S P : ℕ → Bool) (cpu ec sc : ℕ) → AreTwins k l S P → own_turn S k cpu ≡ Some (ec, sc) →
-    IsAtWork (HasSameClock k l ec) (AreGivingWithin k l (Of S) ec) (AreRevokingWithin k l (Of S)) k ec → IsSide (after k cpu) (Of S) (Of P)
+    IsAtWork (HasSameClock k l ec) (AreGivingWithin k l (Of S) ec) (AreRevokingWithin k l (Of S)) (AreCreatingAlone k l (Of S) (Of P)) k ec → IsSide (after k cpu) (Of S) (Of P)
 own_side k l S P cpu ec sc t own works =
     let its = own_is S k cpu ec sc own in
     let p = own_there S k (Of P) cpu ec sc t.first t.side its in
     subst (λ (s : KernelState). IsSide s (Of S) (Of P)) (sym (own_turned S k cpu ec sc its))
-    (own_turned_side (HasSameClock k l ec) k (Of S) (Of P) t.side t.first.forest cpu ec sc p (deed k ec)
-    (first_own (HasSameClock k l ec) k l (Of S) (Of P) (deed k ec) (deed l ec) (own_of k l S P cpu ec sc t own works)) (is_stirred k ec (deed k ec)))
+    (own_turned_side (HasSameClock k l ec) (AreMaking k l (Of S) (Of P)) k (Of S) (Of P) t.side t.first.forest (λ m. m.alone.first) cpu ec sc p (deed k ec)
+    (first_own (HasSameClock k l ec) (AreMaking k l (Of S) (Of P)) k l (Of S) (Of P) (deed k ec) (deed l ec) (own_of k l S P cpu ec sc t own works)) (is_stirred k ec (deed k ec)))
 
 -- ALONG TURNS
 
--- of a down with a deadline, where items are given, and of a revoke something else may be asked
-pub call_as : (timed other revoking taking : Type 0) (o : Result Call Status) → (timed → other) → (revoking → taking) → IsCallAtWork timed revoking o → IsCallAtWork other taking o
-call_as timed other revoking taking (Ok (asks.SmCtrl sm (act.DownWithin ticks))) f g h = f h
-call_as timed other revoking taking (Ok (asks.Revoke range own)) f g h = g h
-call_as timed other revoking taking any f g h = h
-
-pub work_as : (timed other giving within revoking taking : Type 0) (k : KernelState) (ec : ℕ) → (timed → other) → (is_giving (context k ec).state ≡ true → giving → within) → (revoking → taking) →
-    IsAtWork timed giving revoking k ec → IsAtWork other within taking k ec
-work_as timed other giving within revoking taking k ec f g h works = record {
-  state = works.state;
-  calls = λ asking. call_as timed other revoking taking (call_of (context k ec).regs) f h (works.calls asking);
-  gives = λ is. g is (works.gives is);
-  revokes = λ is. h (works.revokes is);
-}
-
--- with what both give and revoke within
-pub working_both : (giving revoking : Type 0) (k l : KernelState) (S P : ℕ → Bool) (ec : ℕ) → AreTwins k l S P → P ec ≡ true → S (pd_of k ec) ≡ true → IsAtWork ⊥ giving revoking k ec →
+-- with what both give, revoke and create within
+pub working_both : (giving revoking creating : Type 0) (k l : KernelState) (S P : ℕ → Bool) (ec : ℕ) → AreTwins k l S P → P ec ≡ true → S (pd_of k ec) ≡ true → IsAtWork ⊥ giving revoking creating k ec →
     (is_giving (context k ec).state ≡ true → IsGivingWithin k (Of S) ec) → (is_giving (context l ec).state ≡ true → IsGivingWithin l (Of S) ec) → (revoking → AreRevokingWithin k l (Of S)) →
-    IsAtWork (HasSameClock k l ec) (AreGivingWithin k l (Of S) ec) (AreRevokingWithin k l (Of S)) k ec
-working_both giving revoking k l S P ec t p s works mine its takes =
-    work_as ⊥ (HasSameClock k l ec) giving (AreGivingWithin k l (Of S) ec) revoking (AreRevokingWithin k l (Of S)) k ec (λ none. absurd none)
-    (λ is asked. record { first = mine is; second = its (ap (λ (x : EcState). is_giving x.state) (context_same k l (Of S) (Of P) (both k l S P t) ec p s) ∙ is) }) takes works
+    (creating → AreCreatingAlone k l (Of S) (Of P)) → IsAtWork (HasSameClock k l ec) (AreGivingWithin k l (Of S) ec) (AreRevokingWithin k l (Of S)) (AreCreatingAlone k l (Of S) (Of P)) k ec
+working_both giving revoking creating k l S P ec t p s works mine its takes makes =
+    work_as ⊥ (HasSameClock k l ec) giving (AreGivingWithin k l (Of S) ec) revoking (AreRevokingWithin k l (Of S)) creating (AreCreatingAlone k l (Of S) (Of P)) k ec (λ none. absurd none)
+    (λ is asked. record { first = mine is; second = its (ap (λ (x : EcState). is_giving x.state) (context_same k l (Of S) (Of P) (both k l S P t) ec p s) ∙ is) }) takes makes works
 
 -- its ranges are made of each other alike after its turn
 pub own_derived : (k l : KernelState) (S P : ℕ → Bool) (cpu other ec sc : ℕ) → AreTwins k l S P → own_turn S k cpu ≡ Some (ec, sc) → own_turn S l other ≡ Some (ec, sc) →
-    IsAtWork (HasSameClock k l ec) (AreGivingWithin k l (Of S) ec) (AreRevokingWithin k l (Of S)) k ec → AreDerivedAlike k l (Of S) → AreDerivedAlike (after k cpu) (after l other) (Of S)
+    IsAtWork (HasSameClock k l ec) (AreGivingWithin k l (Of S) ec) (AreRevokingWithin k l (Of S)) (AreCreatingAlone k l (Of S) (Of P)) k ec → AreDerivedAlike k l (Of S) → AreDerivedAlike (after k cpu) (after l other) (Of S)
 own_derived k l S P cpu other ec sc t own also works a =
-    pair_derived (HasSameClock k l ec) k l (after k cpu) (after l other) (Of S) (Of P) t.first.forest t.second.forest (turn_sound k cpu t.first).forest (turn_sound l other t.second).forest ec (deed k ec) (deed l ec)
+    let its = own_is S k cpu ec sc own in
+    pair_derived (HasSameClock k l ec) (AreMaking k l (Of S) (Of P)) k l (after k cpu) (after l other) (Of S) (Of P) (both k l S P t) (λ m. m) t.first.forest t.second.forest (turn_sound k cpu t.first).forest
+    (turn_sound l other t.second).forest ec (own_there S k (Of P) cpu ec sc t.first t.side its) its.of (deed k ec) (deed l ec)
     (own_of k l S P cpu ec sc t own works) (ap (λ (s : KernelState). s.delegations) (own_turned S k cpu ec sc (own_is S k cpu ec sc own)))
     (ap (λ (s : KernelState). s.delegations) (own_turned S l other ec sc (own_is S l other ec sc also))) a
 
@@ -240,6 +259,22 @@ left_derived k l S P cpu sound same a = derived_kept k l (after k cpu) l (Of S) 
 
 pub derived_left : (k l : KernelState) (S P : ℕ → Bool) (cpu : ℕ) → IsSound l → AreAlike l (after l cpu) (Of S) (Of P) → AreDerivedAlike k l (Of S) → AreDerivedAlike k (after l cpu) (Of S)
 derived_left k l S P cpu sound same a = derived_kept k l k (after l cpu) (Of S) (λ d there s. there) (left_gains l (Of S) cpu sound same.spaces) a
+
+-- the numbers that are left are its own after its turn
+pub own_numbers : (k l : KernelState) (S P : ℕ → Bool) (cpu other ec sc : ℕ) → AreTwins k l S P → own_turn S k cpu ≡ Some (ec, sc) → own_turn S l other ≡ Some (ec, sc) →
+    IsAtWork (HasSameClock k l ec) (AreGivingWithin k l (Of S) ec) (AreRevokingWithin k l (Of S)) (AreCreatingAlone k l (Of S) (Of P)) k ec → AreCreatingAlone k l (Of S) (Of P) →
+    AreCreatingAlone (after k cpu) (after l other) (Of S) (Of P)
+own_numbers k l S P cpu other ec sc t own also works alone =
+    numbers_kept k l (after k cpu) (after l other) (Of S) (Of P) (made_by (deed k ec)) (ap (λ (s : KernelState). s.objects) first)
+    (ap (λ (s : KernelState). s.objects) second ∙ ap (λ (o : Option NewObject). joined l.objects (option_map object_of o))
+    (same_made (HasSameClock k l ec) (AreMaking k l (Of S) (Of P)) k l (Of S) (Of P) (deed k ec) (deed l ec) (own_of k l S P cpu ec sc t own works)))
+    (ap (λ (s : KernelState). s.cpus) first) (ap (λ (s : KernelState). s.cpus) second) alone
+  where
+    first : after k cpu ≡ turned k cpu (by_deed k ec sc (deed k ec) (is_stirred k ec (deed k ec)))
+    first = own_turned S k cpu ec sc (own_is S k cpu ec sc own)
+
+    second : after l other ≡ turned l other (by_deed l ec sc (deed l ec) (is_stirred l ec (deed l ec)))
+    second = own_turned S l other ec sc (own_is S l other ec sc also)
 
 abbrev pub OwnDeed : Type 0
 OwnDeed = ℕ × Deed
@@ -253,10 +288,10 @@ abbrev pub deed_for : KernelState → Option (ℕ × ℕ) → Option OwnDeed
 deed_for k o = option_map (λ (p : ℕ × ℕ). (p.0, unnumbered (deed k p.0))) o
 
 -- the second goes on by others' turns alone
-others_alone : (revokes : Bool) (S P : ℕ → Bool) (us : List ℕ) (k l : KernelState) → AreTwins k l S P → AreLeftAlone revokes S P l us → [] ≡ schedule S l us → EndSame k (run l us) S P [] (own_deeds S l us) [] (own_bytes S l us)
-others_alone revokes S P [] k l t left same = record { alike = t.alike; deeds = refl; bytes = refl }
-others_alone revokes S P (cpu ∷ us) k l t left same =
-    by_own (own_turn S l cpu) refl same (λ next rest. others_alone revokes S P us k (after l cpu) next left.3 rest)
+others_alone : (work : Work) (S P : ℕ → Bool) (us : List ℕ) (k l : KernelState) → AreTwins k l S P → AreLeftAlone work.revokes S P l us → [] ≡ schedule S l us → EndSame k (run l us) S P [] (own_deeds S l us) [] (own_bytes S l us)
+others_alone work S P [] k l t left same = record { alike = t.alike; deeds = refl; bytes = refl }
+others_alone work S P (cpu ∷ us) k l t left same =
+    by_own (own_turn S l cpu) refl same (λ next rest. others_alone work S P us k (after l cpu) next left.3 rest)
   where
     by_own : (o : Option (ℕ × ℕ)) → own_turn S l cpu ≡ o → [] ≡ in_front o (schedule S (after l cpu) us) →
         (AreTwins k (after l cpu) S P → [] ≡ schedule S (after l cpu) us → EndSame k (run (after l cpu) us) S P [] (own_deeds S (after l cpu) us) [] (own_bytes S (after l cpu) us)) →
@@ -270,34 +305,34 @@ abbrev pub Ends : KernelState → List ℕ → KernelState → List ℕ → (ℕ
 Ends k ts l us S P = EndSame (run k ts) (run l us) S P (own_deeds S k ts) (own_deeds S l us) (own_bytes S k ts) (own_bytes S l us)
 
 -- the second goes on until its next own turn, which is as the first's
-matched : (revokes : Bool) (S P : ℕ → Bool) (us : List ℕ) (k l : KernelState) (cpu : ℕ) (ts : List ℕ) (p : ℕ × ℕ) → own_turn S k cpu ≡ Some p → IsAtWork ⊥ (RevokesNothing k (Of S)) (revokes ≡ true) k p.0 → GivesWithin S k cpu →
-    (revokes ≡ true → DerivesWithin k (Of S)) → (revokes ≡ true → AreDerivedAlike k l (Of S)) → AreTwins k l S P → AreLeftAlone revokes S P l us → p ∷ schedule S (after k cpu) ts ≡ schedule S l us →
-    ((vs : List ℕ) (m : KernelState) → (revokes ≡ true → AreDerivedAlike (after k cpu) m (Of S)) → AreTwins (after k cpu) m S P → AreLeftAlone revokes S P m vs → schedule S (after k cpu) ts ≡ schedule S m vs → Ends (after k cpu) ts m vs S P) →
+matched : (work : Work) (S P : ℕ → Bool) (us : List ℕ) (k l : KernelState) (cpu : ℕ) (ts : List ℕ) (p : ℕ × ℕ) → own_turn S k cpu ≡ Some p → IsAtWork ⊥ (RevokesNothing k (Of S)) (work.revokes ≡ true) (work.creates ≡ true) k p.0 → GivesWithin S k cpu →
+    (work.revokes ≡ true → DerivesWithin k (Of S)) → (work.revokes ≡ true → AreDerivedAlike k l (Of S)) → (work.creates ≡ true → AreCreatingAlone k l (Of S) (Of P)) → AreTwins k l S P → AreLeftAlone work.revokes S P l us → p ∷ schedule S (after k cpu) ts ≡ schedule S l us →
+    ((vs : List ℕ) (m : KernelState) → (work.revokes ≡ true → AreDerivedAlike (after k cpu) m (Of S)) → (work.creates ≡ true → AreCreatingAlone (after k cpu) m (Of S) (Of P)) → AreTwins (after k cpu) m S P → AreLeftAlone work.revokes S P m vs → schedule S (after k cpu) ts ≡ schedule S m vs → Ends (after k cpu) ts m vs S P) →
     EndSame (run (after k cpu) ts) (run l us) S P ((p.0, unnumbered (deed k p.0)) ∷ own_deeds S (after k cpu) ts) (own_deeds S l us) (gain_for k cpu (Some p) ++ own_bytes S (after k cpu) ts) (own_bytes S l us)
-matched revokes S P [] k l cpu ts p own works within derives derived t left same later = absurd (cc)
-matched revokes S P (other ∷ us) k l cpu ts p own works within derives derived t left same later =
-    by_own (own_turn S l other) refl same (λ alike next rest. matched revokes S P us k (after l other) cpu ts p own works within derives alike next left.3 rest later)
+matched work S P [] k l cpu ts p own works within derives derived numbers t left same later = absurd (cc)
+matched work S P (other ∷ us) k l cpu ts p own works within derives derived numbers t left same later =
+    by_own (own_turn S l other) refl same (λ alike further next rest. matched work S P us k (after l other) cpu ts p own works within derives alike further next left.3 rest later)
   where
-    timed : own_turn S l other ≡ Some p → IsAtWork (HasSameClock k l p.0) (AreGivingWithin k l (Of S) p.0) (AreRevokingWithin k l (Of S)) k p.0
+    timed : own_turn S l other ≡ Some p → IsAtWork (HasSameClock k l p.0) (AreGivingWithin k l (Of S) p.0) (AreRevokingWithin k l (Of S)) (AreCreatingAlone k l (Of S) (Of P)) k p.0
     timed also =
         let its = own_is S k cpu p.0 p.1 own in
-        working_both (RevokesNothing k (Of S)) (revokes ≡ true) k l S P p.0 t (own_there S k (Of P) cpu p.0 p.1 t.first t.side its) its.of works (within p.0 p.1 own) (left.1 p.0 p.1 also)
-        (λ yes. record { alike = derived yes; first = derives yes; second = left.2 yes })
+        working_both (RevokesNothing k (Of S)) (work.revokes ≡ true) (work.creates ≡ true) k l S P p.0 t (own_there S k (Of P) cpu p.0 p.1 t.first t.side its) its.of works (within p.0 p.1 own) (left.1 p.0 p.1 also)
+        (λ yes. record { alike = derived yes; first = derives yes; second = left.2 yes }) numbers
 
     by_own : (o : Option (ℕ × ℕ)) → own_turn S l other ≡ o → p ∷ schedule S (after k cpu) ts ≡ in_front o (schedule S (after l other) us) →
-        ((revokes ≡ true → AreDerivedAlike k (after l other) (Of S)) → AreTwins k (after l other) S P → p ∷ schedule S (after k cpu) ts ≡ schedule S (after l other) us →
+        ((work.revokes ≡ true → AreDerivedAlike k (after l other) (Of S)) → (work.creates ≡ true → AreCreatingAlone k (after l other) (Of S) (Of P)) → AreTwins k (after l other) S P → p ∷ schedule S (after k cpu) ts ≡ schedule S (after l other) us →
         EndSame (run (after k cpu) ts) (run (after l other) us) S P ((p.0, unnumbered (deed k p.0)) ∷ own_deeds S (after k cpu) ts) (own_deeds S (after l other) us) (gain_for k cpu (Some p) ++ own_bytes S (after k cpu) ts) (own_bytes S (after l other) us)) →
         EndSame (run (after k cpu) ts) (run (after l other) us) S P ((p.0, unnumbered (deed k p.0)) ∷ own_deeds S (after k cpu) ts)
         (in_front (deed_for l (own_turn S l other)) (own_deeds S (after l other) us)) (gain_for k cpu (Some p) ++ own_bytes S (after k cpu) ts) (gain_for l other (own_turn S l other) ++ own_bytes S (after l other) us)
     by_own None is rest goes_on =
         let alone = (left.0 is).same in
-        let ended = goes_on (λ yes. derived_left k l S P other t.second alone (derived yes)) (record { side = t.side; alike = alike_through k l (after l other) (Of S) (Of P) t.alike alone; first = t.first; second = turn_sound l other t.second }) rest in
+        let ended = goes_on (λ yes. derived_left k l S P other t.second alone (derived yes)) (λ yes. numbers_left k l S P other alone (numbers yes)) (record { side = t.side; alike = alike_through k l (after l other) (Of S) (Of P) t.alike alone; first = t.first; second = turn_sound l other t.second }) rest in
         record { alike = ended.alike; deeds = ap (λ (o : Option (ℕ × ℕ)). in_front (deed_for l o) (own_deeds S (after l other) us)) is ∙ ended.deeds; bytes = ap (λ (o : Option (ℕ × ℕ)). gain_for l other o ++ own_bytes S (after l other) us) is ∙ ended.bytes }
     by_own (Some q) is rest goes_on =
         let first : p ≡ q = cc in
         let tails : schedule S (after k cpu) ts ≡ schedule S (after l other) us = cc in
         let also : own_turn S l other ≡ Some p = is ∙ ap (λ (r : ℕ × ℕ). Some r) (sym first) in
-        let ended = later us (after l other) (λ yes. own_derived k l S P cpu other p.0 p.1 t own also (timed also) (derived yes)) (record {
+        let ended = later us (after l other) (λ yes. own_derived k l S P cpu other p.0 p.1 t own also (timed also) (derived yes)) (λ yes. own_numbers k l S P cpu other p.0 p.1 t own also (timed also) (numbers yes)) (record {
           side = own_side k l S P cpu p.0 p.1 t own (timed also);
           alike = own_alike k l S P cpu other p.0 p.1 t own also (timed also);
           first = turn_sound k cpu t.first;
@@ -313,19 +348,19 @@ matched revokes S P (other ∷ us) k l cpu ts p own works within derives derived
               ∙ ap₂ (λ (xs ys : List LogByte). xs ++ ys) (own_gains k l S P cpu other p.0 p.1 t own also (timed also)) ended.bytes;
         }
 
-pub runs_alike : (revokes : Bool) (S P : ℕ → Bool) (ts us : List ℕ) (k l : KernelState) → (revokes ≡ true → AreDerivedAlike k l (Of S)) → AreTwins k l S P → AreLeftAlone revokes S P k ts → AreLeftAlone revokes S P l us →
-    AreAtWorkTimeless revokes S k ts → schedule S k ts ≡ schedule S l us → Ends k ts l us S P
-runs_alike revokes S P [] us k l derived t left right works same = others_alone revokes S P us k l t right same
-runs_alike revokes S P (cpu ∷ ts) us k l derived t left right works same =
-    by_own (own_turn S k cpu) refl same (λ j vs m alike next alone also works_ again. runs_alike revokes S P ts vs j m alike next alone also works_ again)
+pub runs_alike : (work : Work) (S P : ℕ → Bool) (ts us : List ℕ) (k l : KernelState) → (work.revokes ≡ true → AreDerivedAlike k l (Of S)) → (work.creates ≡ true → AreCreatingAlone k l (Of S) (Of P)) → AreTwins k l S P → AreLeftAlone work.revokes S P k ts → AreLeftAlone work.revokes S P l us →
+    AreAtWorkTimeless work S k ts → schedule S k ts ≡ schedule S l us → Ends k ts l us S P
+runs_alike work S P [] us k l derived numbers t left right works same = others_alone work S P us k l t right same
+runs_alike work S P (cpu ∷ ts) us k l derived numbers t left right works same =
+    by_own (own_turn S k cpu) refl same (λ j vs m alike further next alone also works_ again. runs_alike work S P ts vs j m alike further next alone also works_ again)
   where
     by_own : (o : Option (ℕ × ℕ)) → own_turn S k cpu ≡ o → in_front o (schedule S (after k cpu) ts) ≡ schedule S l us →
-        ((j : KernelState) (vs : List ℕ) (m : KernelState) → (revokes ≡ true → AreDerivedAlike j m (Of S)) → AreTwins j m S P → AreLeftAlone revokes S P j ts → AreLeftAlone revokes S P m vs → AreAtWorkTimeless revokes S j ts →
+        ((j : KernelState) (vs : List ℕ) (m : KernelState) → (work.revokes ≡ true → AreDerivedAlike j m (Of S)) → (work.creates ≡ true → AreCreatingAlone j m (Of S) (Of P)) → AreTwins j m S P → AreLeftAlone work.revokes S P j ts → AreLeftAlone work.revokes S P m vs → AreAtWorkTimeless work S j ts →
         schedule S j ts ≡ schedule S m vs → Ends j ts m vs S P) →
         EndSame (run (after k cpu) ts) (run l us) S P (in_front (deed_for k (own_turn S k cpu)) (own_deeds S (after k cpu) ts)) (own_deeds S l us) (gain_for k cpu (own_turn S k cpu) ++ own_bytes S (after k cpu) ts) (own_bytes S l us)
     by_own None is rest later =
         let alone = left.0 is in
-        let ended = later (after k cpu) us l (λ yes. left_derived k l S P cpu t.first alone.same (derived yes)) (record {
+        let ended = later (after k cpu) us l (λ yes. left_derived k l S P cpu t.first alone.same (derived yes)) (λ yes. left_numbers k l S P cpu alone.same (numbers yes)) (record {
           side = alone.side;
           alike = alike_through (after k cpu) k l (Of S) (Of P) (alike_flipped k (after k cpu) (Of S) (Of P) alone.same) t.alike;
           first = turn_sound k cpu t.first;
@@ -333,5 +368,5 @@ runs_alike revokes S P (cpu ∷ ts) us k l derived t left right works same =
         }) left.3 right works.1 rest in
         record { alike = ended.alike; deeds = ended.deeds ∙ sym (ap (λ (o : Option (ℕ × ℕ)). in_front (deed_for k o) (own_deeds S (after k cpu) ts)) is); bytes = ended.bytes ∙ sym (ap (λ (o : Option (ℕ × ℕ)). gain_for k cpu o ++ own_bytes S (after k cpu) ts) is) }
     by_own (Some p) is rest later =
-        let ended = matched revokes S P us k l cpu ts p is (works.0 p.0 p.1 is) left.1 left.2 derived t right rest (λ vs m alike next alone also. later (after k cpu) vs m alike next left.3 alone works.1 also) in
+        let ended = matched work S P us k l cpu ts p is (works.0 p.0 p.1 is) left.1 left.2 derived numbers t right rest (λ vs m alike further next alone also. later (after k cpu) vs m alike further next left.3 alone works.1 also) in
         record { alike = ended.alike; deeds = ended.deeds ∙ sym (ap (λ (o : Option (ℕ × ℕ)). in_front (deed_for k o) (own_deeds S (after k cpu) ts)) is); bytes = ended.bytes ∙ sym (ap (λ (o : Option (ℕ × ℕ)). gain_for k cpu o ++ own_bytes S (after k cpu) ts) is) }

@@ -28,7 +28,7 @@ use Rattle.nova_calls.specs.Hypercalls.{call_of}
 use Rattle.law_flow.proofs.Seeing.{Both, context_same, instruction_same, thread_same}
 
 -- who acts is a member
-own_member : (S : ℕ → Bool) (k : KernelState) (cpu ec sc : ℕ) → IsSound k → own_turn S k cpu ≡ Some (ec, sc) → IsMember k (Of S) ec
+pub own_member : (S : ℕ → Bool) (k : KernelState) (cpu ec sc : ℕ) → IsSound k → own_turn S k cpu ≡ Some (ec, sc) → IsMember k (Of S) ec
 own_member S k cpu ec sc sound own = by_object (slice_get k.objects ec) refl kind (own_is S k cpu ec sc own).of
   where
     kind : option_map is_ec (slice_get k.objects ec) ≡ Some true
@@ -98,21 +98,21 @@ revokes_second k l S P a sound side none n range own state s =
     by_object None is h t = absurd (cc)
 
 -- what it does in its turn
-pub own_at : (timed revoking : Type 0) (S P : ℕ → Bool) (T : ℕ → Type 0) (k : KernelState) (cpu ec sc : ℕ) → IsSound k → IsPartitioned k (Of S) T (Of P) → own_turn S k cpu ≡ Some (ec, sc) →
-    IsAtWork timed (RevokesNothing k (Of S)) revoking k ec → (revoking → DerivesWithin k (Of S)) → IsOwnDeed timed k (Of S) (Of P) (deed k ec)
-own_at timed revoking S P T k cpu ec sc sound c own works within =
+pub own_at : (timed revoking creating : Type 0) (S P : ℕ → Bool) (T : ℕ → Type 0) (k : KernelState) (cpu ec sc : ℕ) → IsSound k → IsPartitioned k (Of S) T (Of P) → own_turn S k cpu ≡ Some (ec, sc) →
+    IsAtWork timed (RevokesNothing k (Of S)) revoking creating k ec → (revoking → DerivesWithin k (Of S)) → IsOwnDeed timed creating k (Of S) (Of P) (deed k ec)
+own_at timed revoking creating S P T k cpu ec sc sound c own works within =
     let its = own_is S k cpu ec sc own in
-    own_one timed (RevokesNothing k (Of S)) revoking k (Of S) (Of P) (record { side = c.side; alike = alike_itself k S P; first = sound.kept.edges; second = sound.kept.edges }) sound.forest ec
+    own_one timed (RevokesNothing k (Of S)) revoking creating k (Of S) (Of P) (record { side = c.side; alike = alike_itself k S P; first = sound.kept.edges; second = sound.kept.edges }) sound.forest ec
     (own_there S k (Of P) cpu ec sc sound c.side its) its.of works (λ gives. caller_within S P T k cpu ec sc sound c own gives works.state) within
 
 -- THE SAME TURN
 
 -- it is one at work in a second state, too
-pub works_too : (timed giving further revoking : Type 0) (k l : KernelState) (S P : ℕ → Type 0) → Both k l S P → (ec : ℕ) → P ec → S (pd_of k ec) → (giving → further) →
-    IsAtWork timed giving revoking k ec → IsAtWork timed further revoking l ec
-works_too timed giving further revoking k l S P b ec p s f works = record {
+pub works_too : (timed giving further revoking creating : Type 0) (k l : KernelState) (S P : ℕ → Type 0) → Both k l S P → (ec : ℕ) → P ec → S (pd_of k ec) → (giving → further) →
+    IsAtWork timed giving revoking creating k ec → IsAtWork timed further revoking creating l ec
+works_too timed giving further revoking creating k l S P b ec p s f works = record {
   state = ap gives_no_first state ∙ works.state;
-  calls = λ asks_. subst (λ (x : EcState). IsCallAtWork timed revoking (call_of x.regs)) (sym (context_same k l S P b ec p s)) (works.calls (by_asks asks_));
+  calls = λ asks_. subst (λ (x : EcState). IsCallAtWork timed revoking creating (call_of x.regs)) (sym (context_same k l S P b ec p s)) (works.calls (by_asks asks_));
   gives = λ is. f (works.gives (sym (ap is_giving state) ∙ is));
   revokes = λ is. works.revokes (sym (ap is_revoking state) ∙ is);
 }

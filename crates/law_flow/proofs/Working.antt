@@ -29,7 +29,7 @@ use Rattle.law_integrity.specs.Confined.{Of}
 use Rattle.law_flow.specs.Examples.{first_domains, given_page, two_homes}
 use Rattle.law_turns.specs.Giving.{gives_no_first}
 use Rattle.law_turns.specs.Revoking.{is_revoking}
-use Rattle.law_flow.specs.Flow.{AreAtWorkTimeless, IsAtWork, IsCallAtWork, RevokesNothing, own_turn}
+use Rattle.law_flow.specs.Flow.{AreAtWorkTimeless, IsAtWork, IsCallAtWork, RevokesNothing, fixed, own_turn}
 
 -- A CALL
 
@@ -42,7 +42,7 @@ is_call_at_work (Ok (asks.CreateSm target pd count)) = false
 is_call_at_work (Ok (asks.SmCtrl sm (act.DownWithin ticks))) = false
 is_call_at_work other = true
 
-call_so : (o : Result Call Status) → is_call_at_work o ≡ true → IsCallAtWork ⊥ (true ≡ true) o
+call_so : (o : Result Call Status) → is_call_at_work o ≡ true → IsCallAtWork ⊥ (true ≡ true) (false ≡ true) o
 call_so (Ok (asks.CreatePd target pd first)) h = absurd (cc)
 call_so (Ok (asks.CreateEc target pd cpu kind sp event)) h = absurd (cc)
 call_so (Ok (asks.CreateSc target pd whose quantum priority)) h = absurd (cc)
@@ -84,12 +84,12 @@ unless_giving : (t u : Bool) → (not t || u) ≡ true → t ≡ true → u ≡ 
 unless_giving true u h is = h
 unless_giving false u h is = absurd (cc)
 
-work_so : (S : ℕ → Bool) (k : KernelState) (o : Option (ℕ × ℕ)) → is_work k o ≡ true → (ec sc : ℕ) → o ≡ Some (ec, sc) → IsAtWork ⊥ (RevokesNothing k (Of S)) (true ≡ true) k ec
+work_so : (S : ℕ → Bool) (k : KernelState) (o : Option (ℕ × ℕ)) → is_work k o ≡ true → (ec sc : ℕ) → o ≡ Some (ec, sc) → IsAtWork ⊥ (RevokesNothing k (Of S)) (true ≡ true) (false ≡ true) k ec
 work_so S k None h ec sc is = absurd (cc)
 work_so S k (Some p) h ec sc is =
     let at_work = and_parts (gives_no_first (context k p.0).state) (is_call_at_work (call_of (context k p.0).regs) && (not (is_giving (context k p.0).state) || list_all is_calm k.contexts)) h in
     let rest = and_parts (is_call_at_work (call_of (context k p.0).regs)) (not (is_giving (context k p.0).state) || list_all is_calm k.contexts) at_work.1 in
-    subst (IsAtWork ⊥ (RevokesNothing k (Of S)) (true ≡ true) k) (ap (λ (q : ℕ × ℕ). q.0) (same_Some {A = ℕ × ℕ} p (ec, sc) is))
+    subst (IsAtWork ⊥ (RevokesNothing k (Of S)) (true ≡ true) (false ≡ true) k) (ap (λ (q : ℕ × ℕ). q.0) (same_Some {A = ℕ × ℕ} p (ec, sc) is))
     (record {
       state = at_work.0;
       calls = λ asking. call_so (call_of (context k p.0).regs) rest.0;
@@ -97,7 +97,7 @@ work_so S k (Some p) h ec sc is =
       revokes = λ revokes. refl;
     })
 
-works_so : (S : ℕ → Bool) (k : KernelState) (turns : List ℕ) → are_work S k turns ≡ true → AreAtWorkTimeless true S k turns
+works_so : (S : ℕ → Bool) (k : KernelState) (turns : List ℕ) → are_work S k turns ≡ true → AreAtWorkTimeless (fixed true) S k turns
 works_so S k [] h = tt
 works_so S k (cpu ∷ turns) h =
     let both = and_parts (is_work k (own_turn S k cpu)) (are_work S (after k cpu) turns) h in (work_so S k (own_turn S k cpu) both.0, works_so S (after k cpu) turns both.1)
@@ -108,7 +108,7 @@ all_work : are_work first_domains (run (boot two_homes) (replicate 66 0)) (repli
 unfolding one instr_of call_of choice deed input_of next_entry next_to_act charged turn exited
 all_work = refl
 
-pub works : AreAtWorkTimeless true first_domains (run (boot two_homes) (replicate 66 0)) (replicate 18 0)
+pub works : AreAtWorkTimeless (fixed true) first_domains (run (boot two_homes) (replicate 66 0)) (replicate 18 0)
 works = works_so first_domains (run (boot two_homes) (replicate 66 0)) (replicate 18 0) all_work
 
 pub revokes : is_revoking (context (run (boot two_homes) (replicate 73 0)) 5).state ≡ true

@@ -1,13 +1,14 @@
 -- Noninterference of a side: which part of a state is the side's, two states in which that part is the same, whatever the rest is, and what keeps others out of it.
 -- `S` says which protection domains are the side's, by number, and `P` which objects its part has; `T` says which domains are the others'. What they hold and reach, and when they are apart, is as in integrity.
-use Rattle.std.specs.Prelude.{◌≡◌, ℕ, Contains, Bool, IsSome, nat_lt, true, false, List, [], ◌∷◌, ◌++◌, drop, length, map, slice_get, Option, Some, None, option_and_then, option_map, Result, Ok}
+use Rattle.std.specs.Prelude.{◌≡◌, ◌≤◌, ◌&&◌, ℕ, Contains, Bool, IsSome, nat_lt, true, false, List, [], ◌∷◌, ◌++◌, drop, length, map, slice_get, Option, Some, None, option_and_then, option_map, Result, Ok}
 use Rattle.std.specs.List.{find}
 use Rattle.nova_calls.specs.Hypercalls.{call_of}
 use Rattle.nova_calls.specs.declared.call.Call.{Call}
 use Rattle.nova_calls.specs.declared.call.Call.TheVariants.{CreatePd, CreateEc, CreateSc, CreatePt, CreateSm, Revoke, SmCtrl}
 use Rattle.nova_calls.specs.declared.call.SmAction.TheVariants.{DownWithin}
 use Rattle.nova_guest.specs.declared.page.Page.{Page}
-use Rattle.nova_objects.specs.declared.object.Object.TheVariants.{Ec, Pt, Sm}
+use Rattle.nova_objects.specs.declared.object.Object.{Object}
+use Rattle.nova_objects.specs.declared.object.Object.TheVariants.{Ec, Pd, Pt, Sc, Sm}
 use Rattle.nova_objects.specs.declared.object.EcKind.{EcKind}
 use Rattle.nova_range.specs.Rights.{write_right}
 use Rattle.nova_range.specs.declared.range.Kind.{Kind}
@@ -108,21 +109,22 @@ pub record AreAlike (k l : KernelState) (S P : ℕ → Type 0) : Type 0 where
 
 -- A SIDE AT WORK
 
--- the call makes no object; of a down with a deadline the first is asked, and of a revoke the second
-abbrev pub IsCallAtWork : Type 0 → Type 0 → Result Call Status → Type 0
-IsCallAtWork timed revoking (Ok (CreatePd target pd first)) = ⊥
-IsCallAtWork timed revoking (Ok (CreateEc target pd cpu kind sp event)) = ⊥
-IsCallAtWork timed revoking (Ok (CreateSc target pd whose quantum priority)) = ⊥
-IsCallAtWork timed revoking (Ok (CreatePt target pd handler mtd ip)) = ⊥
-IsCallAtWork timed revoking (Ok (CreateSm target pd count)) = ⊥
-IsCallAtWork timed revoking (Ok (Revoke range own)) = revoking
-IsCallAtWork timed revoking (Ok (SmCtrl sm (DownWithin ticks))) = timed
-IsCallAtWork timed revoking other = Unit {0}
+-- Of a down with a deadline the first is asked, of a revoke the second, and of a call that makes an object the third. None makes a protection domain with a first range, which is given by items.
+abbrev pub IsCallAtWork : Type 0 → Type 0 → Type 0 → Result Call Status → Type 0
+IsCallAtWork timed revoking creating (Ok (CreatePd target pd None)) = creating
+IsCallAtWork timed revoking creating (Ok (CreatePd target pd (Some first))) = ⊥
+IsCallAtWork timed revoking creating (Ok (CreateEc target pd cpu kind sp event)) = creating
+IsCallAtWork timed revoking creating (Ok (CreateSc target pd whose quantum priority)) = creating
+IsCallAtWork timed revoking creating (Ok (CreatePt target pd handler mtd ip)) = creating
+IsCallAtWork timed revoking creating (Ok (CreateSm target pd count)) = creating
+IsCallAtWork timed revoking creating (Ok (Revoke range own)) = revoking
+IsCallAtWork timed revoking creating (Ok (SmCtrl sm (DownWithin ticks))) = timed
+IsCallAtWork timed revoking creating other = Unit {0}
 
--- Its turn makes nothing, and if it makes a hypercall, this is such a one. Of one that gives items, and of one that revokes, something else is asked, too.
-pub record IsAtWork (timed giving revoking : Type 0) (k : KernelState) (ec : ℕ) : Type 0 where
+-- Its turn gives no first range, and if it makes a hypercall, this is such a one. Of one that gives items, and of one that revokes, something else is asked, too.
+pub record IsAtWork (timed giving revoking creating : Type 0) (k : KernelState) (ec : ℕ) : Type 0 where
   pub state : gives_no_first (context k ec).state ≡ true
-  pub calls : IsAsking k ec → IsCallAtWork timed revoking (call_of (context k ec).regs)
+  pub calls : IsAsking k ec → IsCallAtWork timed revoking creating (call_of (context k ec).regs)
   pub gives : is_giving (context k ec).state ≡ true → giving
   pub revokes : is_revoking (context k ec).state ≡ true → revoking
 
@@ -171,6 +173,34 @@ pub record AreRevokingWithin (k l : KernelState) (S : ℕ → Type 0) : Type 0 w
   pub alike : AreDerivedAlike k l S
   pub first : DerivesWithin k S
   pub second : DerivesWithin l S
+
+-- WHERE IT CREATES
+
+-- The side alone creates: all numbers that no object has yet are its, of objects and of domains, so that its part has them once they are made. Of the objects that are there its part has the
+-- execution contexts of its domains, and what schedules those of its part.
+pub record IsCreatingAlone (k : KernelState) (S P : ℕ → Type 0) : Type 0 where
+  pub objects : (n : ℕ) → length k.objects ≤ n → P n
+  pub domains : (n : ℕ) → length k.objects ≤ n → S n
+  pub members : (n pd cpu : ℕ) (kind : EcKind) (event : ℕ) → slice_get k.objects n ≡ Some (Ec pd cpu kind event) → S pd → P n
+  pub schedules : (n donor cpu priority quantum : ℕ) → slice_get k.objects n ≡ Some (Sc donor cpu priority quantum) → P donor → P n
+
+-- so in both states, which have as many objects, so that what is made has one number, and as many processors
+pub record AreCreatingAlone (k l : KernelState) (S P : ℕ → Type 0) : Type 0 where
+  pub first : IsCreatingAlone k S P
+  pub second : IsCreatingAlone l S P
+  pub objects : length l.objects ≡ length k.objects
+  pub cpus : l.cpus ≡ k.cpus
+
+-- of these numbers those of protection domains that are there, and those of objects that are
+abbrev pub is_domain : Option Object → Bool
+is_domain (Some Pd) = true
+is_domain other = false
+
+abbrev pub domains : KernelState → (ℕ → Bool) → ℕ → Bool
+domains k S n = S n && is_domain (slice_get k.objects n)
+
+abbrev pub existing : KernelState → (ℕ → Bool) → ℕ → Bool
+existing k P n = P n && nat_lt n (length k.objects)
 
 -- ALONG TURNS
 
@@ -224,20 +254,36 @@ AreLeftAlone revokes S P k [] = Unit {0}
 AreLeftAlone revokes S P k (cpu ∷ turns) =
     (own_turn S k cpu ≡ None → IsLeftAlone k (Of S) (Of P) cpu) × GivesWithin S k cpu × (revokes ≡ true → DerivesWithin k (Of S)) × AreLeftAlone revokes S P (after k cpu) turns
 
--- In each of the side's turns it is at work, with deadlines or without (or without them): it gives only while none of it is amid a revoke, and revokes only where the first says that it may.
-abbrev pub AreAtWork : Bool → (ℕ → Bool) → KernelState → List ℕ → Type 0
-AreAtWork revokes S k [] = Unit {0}
-AreAtWork revokes S k (cpu ∷ turns) = ((ec sc : ℕ) → own_turn S k cpu ≡ Some (ec, sc) → IsAtWork (Unit {0}) (RevokesNothing k (Of S)) (revokes ≡ true) k ec) × AreAtWork revokes S (after k cpu) turns
+-- what a side may do along turns beside what each at work does
+pub record Work : Type 0 where
+  pub revokes : Bool
+  pub creates : Bool
 
-abbrev pub AreAtWorkTimeless : Bool → (ℕ → Bool) → KernelState → List ℕ → Type 0
-AreAtWorkTimeless revokes S k [] = Unit {0}
-AreAtWorkTimeless revokes S k (cpu ∷ turns) = ((ec sc : ℕ) → own_turn S k cpu ≡ Some (ec, sc) → IsAtWork ⊥ (RevokesNothing k (Of S)) (revokes ≡ true) k ec) × AreAtWorkTimeless revokes S (after k cpu) turns
+-- one that makes no object
+abbrev pub fixed : Bool → Work
+fixed revokes = record { revokes = revokes; creates = false }
+
+-- In each of the side's turns it is at work, with deadlines or without (or without them): it gives only while none of it is amid a revoke, and revokes and creates only where the first says that it may.
+abbrev pub AreAtWork : Work → (ℕ → Bool) → KernelState → List ℕ → Type 0
+AreAtWork work S k [] = Unit {0}
+AreAtWork work S k (cpu ∷ turns) =
+    ((ec sc : ℕ) → own_turn S k cpu ≡ Some (ec, sc) → IsAtWork (Unit {0}) (RevokesNothing k (Of S)) (work.revokes ≡ true) (work.creates ≡ true) k ec) × AreAtWork work S (after k cpu) turns
+
+abbrev pub AreAtWorkTimeless : Work → (ℕ → Bool) → KernelState → List ℕ → Type 0
+AreAtWorkTimeless work S k [] = Unit {0}
+AreAtWorkTimeless work S k (cpu ∷ turns) =
+    ((ec sc : ℕ) → own_turn S k cpu ≡ Some (ec, sc) → IsAtWork ⊥ (RevokesNothing k (Of S)) (work.revokes ≡ true) (work.creates ≡ true) k ec) × AreAtWorkTimeless work S (after k cpu) turns
 
 -- Two runs, of these turns from these states, come to the same part of the side's, by the same deeds and bytes of it.
 pub record AreAlikeAlong (k l : KernelState) (turns others : List ℕ) (S P : ℕ → Bool) : Type 0 where
   pub part : AreAlike (run k turns) (run l others) (Of S) (Of P)
   pub deeds : own_deeds S l others ≡ own_deeds S k turns
   pub bytes : own_bytes S l others ≡ own_bytes S k turns
+
+-- In these turns nobody else makes an object.
+abbrev pub OthersMakeNothing : (ℕ → Bool) → KernelState → List ℕ → Type 0
+OthersMakeNothing S k [] = Unit {0}
+OthersMakeNothing S k (cpu ∷ turns) = (own_turn S k cpu ≡ None → length (after k cpu).objects ≡ length k.objects) × OthersMakeNothing S (after k cpu) turns
 
 -- WHAT KEEPS OTHERS OUT
 

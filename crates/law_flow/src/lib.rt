@@ -4,7 +4,7 @@
 //! same but for numbers of ranges, which no program sees. The functions do nothing: their contracts are the laws.
 #![tactic(auto)]
 
-ghost use Rattle.std.specs.Prelude.{◌≡◌, ℕ, Bool, true, List, None, Some, filter, replicate};
+ghost use Rattle.std.specs.Prelude.{◌≡◌, ℕ, Bool, true, List, None, Some, filter, length, replicate};
 ghost use Rattle.nova_model.specs.Boot.{Scenario, boot};
 ghost use Rattle.nova_model.specs.Deeds.{deed};
 ghost use Rattle.nova_model.specs.Runs.{after, run};
@@ -13,34 +13,41 @@ ghost use Rattle.nova_model.specs.declared.deed.Deed.TheVariants.{Gives};
 ghost use Rattle.law_isolation.specs.Sound.{IsSound};
 ghost use Rattle.law_integrity.specs.Confined.{Of};
 ghost use Rattle.law_flow.specs.Examples.{first_domains, first_objects, first_processors, given_page, other_domains, two_homes};
-ghost use Rattle.law_flow.specs.Flow.{AreAlike, AreAlikeAlong, AreAtWork, AreAtWorkTimeless, AreDerivedAlike, AreGivingWithin, AreLeftAlone, AreRevokingWithin, DerivesWithin, HasSameClock, IsAtWork, IsGivingWithin, IsLeftAlone, IsPartitioned, IsSide, IsTimeless, own_turn, schedule, unnumbered};
+ghost use Rattle.law_flow.specs.Flow.{AreAlike, AreAlikeAlong, AreAtWork, AreAtWorkTimeless, AreCreatingAlone, AreDerivedAlike, AreGivingWithin, AreLeftAlone, AreRevokingWithin, DerivesWithin, HasSameClock, IsAtWork, IsCreatingAlone, IsGivingWithin, IsLeftAlone, IsPartitioned, IsSide, IsTimeless, OthersMakeNothing, Work, domains, existing, fixed, own_turn, schedule, unnumbered};
 ghost use Rattle.law_turns.specs.Revoking.{is_revoking};
 ghost use Rattle.law_flow.specs.Processors.{AreAlikeAtHome, AreAtHome, AreTimed, IsDivided};
 
 /// Take two sound states in which a side's part is the same, and a turn of the same execution context of the side in
-/// both, paid by the same scheduling context, that asks for no create. It does the same in both, but for numbers of
-/// ranges, and leaves states in which the side's part is the same again, whatever all the rest is: other objects,
-/// delegations, registers, states, queues, budgets, memory and clocks. Where it asks for a down with a deadline, the
-/// clock of its processor is the same in both. Where it gives items, it does so within the side, and in neither state a
-/// revoke is in the way. Where it revokes, in neither state anything that others hold was made of what it holds, and its
-/// ranges were made of each other alike and in one order: a revoke takes the newest first, by their numbers. They stay so.
+/// both, paid by the same scheduling context. It does the same in both, but for numbers of ranges, and leaves states in
+/// which the side's part is the same again, whatever all the rest is: other objects, delegations, registers, states,
+/// queues, budgets, memory and clocks. Where it asks for a down with a deadline, the clock of its processor is the same in
+/// both. Where it gives items, it does so within the side, and in neither state a revoke is in the way. Where it revokes,
+/// in neither state anything that others hold was made of what it holds, and its ranges were made of each other alike and
+/// in one order: a revoke takes the newest first, by their numbers. They stay so. Where it creates, both states have as
+/// many objects, and all numbers that no object has yet are the side's: they stay so, too. It makes no protection domain
+/// with a first range.
 pub fn step_consistency()
     ensures decides { (k l : KernelState) (S P : ℕ → Bool) (cpu ec sc : ℕ) → IsSound k → IsSound l
         → IsSide k (Of S) (Of P) → AreAlike k l (Of S) (Of P)
-        → own_turn S k cpu ≡ Some (ec, sc) → IsAtWork (HasSameClock k l ec) (AreGivingWithin k l (Of S) ec) (AreRevokingWithin k l (Of S)) k ec
+        → own_turn S k cpu ≡ Some (ec, sc) → IsAtWork (HasSameClock k l ec) (AreGivingWithin k l (Of S) ec) (AreRevokingWithin k l (Of S)) (AreCreatingAlone k l (Of S) (Of P)) k ec
         → unnumbered (deed l ec) ≡ unnumbered (deed k ec) }
     ensures turn { (k l : KernelState) (S P : ℕ → Bool) (cpu other ec sc : ℕ) → IsSound k → IsSound l
         → IsSide k (Of S) (Of P) → AreAlike k l (Of S) (Of P)
         → own_turn S k cpu ≡ Some (ec, sc) → own_turn S l other ≡ Some (ec, sc)
-        → IsAtWork (HasSameClock k l ec) (AreGivingWithin k l (Of S) ec) (AreRevokingWithin k l (Of S)) k ec
+        → IsAtWork (HasSameClock k l ec) (AreGivingWithin k l (Of S) ec) (AreRevokingWithin k l (Of S)) (AreCreatingAlone k l (Of S) (Of P)) k ec
         → AreAlike (after k cpu) (after l other) (Of S) (Of P) }
     ensures lines { (k l : KernelState) (S P : ℕ → Bool) (cpu other ec sc : ℕ) → IsSound k → IsSound l
         → IsSide k (Of S) (Of P) → AreAlike k l (Of S) (Of P)
         → own_turn S k cpu ≡ Some (ec, sc) → own_turn S l other ≡ Some (ec, sc)
-        → IsAtWork (HasSameClock k l ec) (AreGivingWithin k l (Of S) ec) (AreRevokingWithin k l (Of S)) k ec
+        → IsAtWork (HasSameClock k l ec) (AreGivingWithin k l (Of S) ec) (AreRevokingWithin k l (Of S)) (AreCreatingAlone k l (Of S) (Of P)) k ec
         → AreDerivedAlike k l (Of S) → AreDerivedAlike (after k cpu) (after l other) (Of S) }
+    ensures numbers { (k l : KernelState) (S P : ℕ → Bool) (cpu other ec sc : ℕ) → IsSound k → IsSound l
+        → IsSide k (Of S) (Of P) → AreAlike k l (Of S) (Of P)
+        → own_turn S k cpu ≡ Some (ec, sc) → own_turn S l other ≡ Some (ec, sc)
+        → IsAtWork (HasSameClock k l ec) (AreGivingWithin k l (Of S) ec) (AreRevokingWithin k l (Of S)) (AreCreatingAlone k l (Of S) (Of P)) k ec
+        → AreCreatingAlone k l (Of S) (Of P) → AreCreatingAlone (after k cpu) (after l other) (Of S) (Of P) }
     ensures side { (k : KernelState) (S P : ℕ → Bool) (cpu ec sc : ℕ) → IsSound k
-        → IsSide k (Of S) (Of P) → own_turn S k cpu ≡ Some (ec, sc) → IsAtWork (HasSameClock k k ec) (IsGivingWithin k (Of S) ec) (DerivesWithin k (Of S)) k ec
+        → IsSide k (Of S) (Of P) → own_turn S k cpu ≡ Some (ec, sc) → IsAtWork (HasSameClock k k ec) (IsGivingWithin k (Of S) ec) (DerivesWithin k (Of S)) (IsCreatingAlone k (Of S) (Of P)) k ec
         → IsSide (after k cpu) (Of S) (Of P) }
 {}
 
@@ -49,28 +56,43 @@ pub fn step_consistency()
 /// idle for good, no alarm rings at the first's semaphores, and none of it has a deadline. A turn that is none of the
 /// first's leaves its part as it is, all of it: so each one does along turns in which the first is at work, whatever
 /// the others do; and what the first gives it gives within itself, with no revoke in the way. If it may revoke, and
-/// nothing that others hold was made of what it holds, it stays so.
+/// nothing that others hold was made of what it holds, it stays so. If the first set has numbers of no object, too, then
+/// a turn of others that makes no object leaves all of the part, where all of this holds of what is there; so it is
+/// along turns in which the first creates, and nobody else does.
 pub fn local_respect()
     ensures turn { (scenario : Scenario) (turns : List ℕ) (S T P : ℕ → Bool) (cpu : ℕ)
         → IsPartitioned (run (boot scenario) turns) (Of S) (Of T) (Of P) → IsTimeless (run (boot scenario) turns) (Of P)
         → own_turn S (run (boot scenario) turns) cpu ≡ None
         → IsLeftAlone (run (boot scenario) turns) (Of S) (Of P) cpu }
+    ensures creating { (scenario : Scenario) (turns : List ℕ) (S T P : ℕ → Bool) (cpu : ℕ)
+        → IsPartitioned (run (boot scenario) turns) (Of (domains (run (boot scenario) turns) S)) (Of T) (Of (existing (run (boot scenario) turns) P))
+        → IsTimeless (run (boot scenario) turns) (Of (existing (run (boot scenario) turns) P))
+        → own_turn S (run (boot scenario) turns) cpu ≡ None → length (after (run (boot scenario) turns) cpu).objects ≡ length (run (boot scenario) turns).objects
+        → IsLeftAlone (run (boot scenario) turns) (Of S) (Of P) cpu }
     ensures turns { (revokes : Bool) (scenario : Scenario) (before turns : List ℕ) (S T P : ℕ → Bool)
         → IsPartitioned (run (boot scenario) before) (Of S) (Of T) (Of P) → IsTimeless (run (boot scenario) before) (Of P)
         → (revokes ≡ true → DerivesWithin (run (boot scenario) before) (Of S))
-        → AreAtWorkTimeless revokes S (run (boot scenario) before) turns
+        → AreAtWorkTimeless (fixed revokes) S (run (boot scenario) before) turns
         → AreLeftAlone revokes S P (run (boot scenario) before) turns }
+    ensures along { (work : Work) (scenario : Scenario) (before turns : List ℕ) (S T P : ℕ → Bool)
+        → IsPartitioned (run (boot scenario) before) (Of (domains (run (boot scenario) before) S)) (Of T) (Of (existing (run (boot scenario) before) P))
+        → IsTimeless (run (boot scenario) before) (Of P) → IsCreatingAlone (run (boot scenario) before) (Of S) (Of P)
+        → (work.revokes ≡ true → DerivesWithin (run (boot scenario) before) (Of S)) → OthersMakeNothing S (run (boot scenario) before) turns
+        → AreAtWorkTimeless work S (run (boot scenario) before) turns
+        → AreLeftAlone work.revokes S P (run (boot scenario) before) turns }
 {}
 
 /// Take two runs, from sound states in which a side's part is the same, that have the same turns of the side, in which
 /// it is at work without deadlines and alarms and gives within itself, while each other turn leaves its part alone. If it
 /// may revoke, its ranges were made of each other alike and in one order in both states, and all that is made of them is
-/// its own along both runs. At their ends its part is the same, and so was all that it did, however many turns of others
-/// came, when they came, and whatever they did.
+/// its own along both runs. If it may create, it does so alone: its part has all numbers that no object has yet, so that
+/// what leaves it alone makes none. At their ends its part is the same, and so was all that it did, however many turns of
+/// others came, when they came, and whatever they did.
 pub fn unwinding()
-    ensures { (revokes : Bool) (k l : KernelState) (turns others : List ℕ) (S P : ℕ → Bool) → IsSound k → IsSound l
-        → IsSide k (Of S) (Of P) → AreAlike k l (Of S) (Of P) → (revokes ≡ true → AreDerivedAlike k l (Of S))
-        → AreLeftAlone revokes S P k turns → AreLeftAlone revokes S P l others → AreAtWorkTimeless revokes S k turns
+    ensures { (work : Work) (k l : KernelState) (turns others : List ℕ) (S P : ℕ → Bool) → IsSound k → IsSound l
+        → IsSide k (Of S) (Of P) → AreAlike k l (Of S) (Of P)
+        → (work.revokes ≡ true → AreDerivedAlike k l (Of S)) → (work.creates ≡ true → AreCreatingAlone k l (Of S) (Of P))
+        → AreLeftAlone work.revokes S P k turns → AreLeftAlone work.revokes S P l others → AreAtWorkTimeless work S k turns
         → schedule S k turns ≡ schedule S l others
         → AreAlikeAlong k l turns others S P }
 {}
@@ -80,14 +102,24 @@ pub fn unwinding()
 /// first run, let it be at work from there on, without deadlines and alarms; if it may revoke, at neither place anything
 /// that others hold was made of what it holds, and its ranges were made of each other alike and in one order. If the two
 /// runs have the same turns of the side, by who acts and who pays, its part is the same at their ends, and all that it
-/// did is: whatever others are and do in each, and whenever their turns come.
+/// did is: whatever others are and do in each, and whenever their turns come. If it may create, and creates alone, nobody
+/// else makes an object in either run, and it is at work in both; the condition at the places is of what is there.
 pub fn noninterference()
-    ensures { (revokes : Bool) (a b : Scenario) (before since turns others : List ℕ) (S T U P : ℕ → Bool)
+    ensures working { (revokes : Bool) (a b : Scenario) (before since turns others : List ℕ) (S T U P : ℕ → Bool)
         → IsPartitioned (run (boot a) before) (Of S) (Of T) (Of P) → IsTimeless (run (boot a) before) (Of P)
         → IsPartitioned (run (boot b) since) (Of S) (Of U) (Of P) → IsTimeless (run (boot b) since) (Of P)
         → AreAlike (run (boot a) before) (run (boot b) since) (Of S) (Of P)
         → (revokes ≡ true → AreRevokingWithin (run (boot a) before) (run (boot b) since) (Of S))
-        → AreAtWorkTimeless revokes S (run (boot a) before) turns
+        → AreAtWorkTimeless (fixed revokes) S (run (boot a) before) turns
+        → schedule S (run (boot a) before) turns ≡ schedule S (run (boot b) since) others
+        → AreAlikeAlong (run (boot a) before) (run (boot b) since) turns others S P }
+    ensures creating { (work : Work) (a b : Scenario) (before since turns others : List ℕ) (S T U P : ℕ → Bool)
+        → IsPartitioned (run (boot a) before) (Of (domains (run (boot a) before) S)) (Of T) (Of (existing (run (boot a) before) P)) → IsTimeless (run (boot a) before) (Of P)
+        → IsPartitioned (run (boot b) since) (Of (domains (run (boot b) since) S)) (Of U) (Of (existing (run (boot b) since) P)) → IsTimeless (run (boot b) since) (Of P)
+        → AreAlike (run (boot a) before) (run (boot b) since) (Of S) (Of P)
+        → (work.revokes ≡ true → AreRevokingWithin (run (boot a) before) (run (boot b) since) (Of S)) → AreCreatingAlone (run (boot a) before) (run (boot b) since) (Of S) (Of P)
+        → OthersMakeNothing S (run (boot a) before) turns → OthersMakeNothing S (run (boot b) since) others
+        → AreAtWorkTimeless work S (run (boot a) before) turns → AreAtWorkTimeless work S (run (boot b) since) others
         → schedule S (run (boot a) before) turns ≡ schedule S (run (boot b) since) others
         → AreAlikeAlong (run (boot a) before) (run (boot b) since) turns others S P }
 {}
@@ -107,7 +139,7 @@ pub fn noninterference_at_home()
         → AreAlike (run (boot a) before) (run (boot b) since) (Of S) (Of P)
         → AreTimed (run (boot a) before) (run (boot b) since) (Of P) (Of C)
         → (revokes ≡ true → AreRevokingWithin (run (boot a) before) (run (boot b) since) (Of S))
-        → AreAtWork revokes S (run (boot a) before) turns
+        → AreAtWork (fixed revokes) S (run (boot a) before) turns
         → filter C turns ≡ filter C others
         → AreAlikeAtHome (run (boot a) before) (run (boot b) since) turns others S P C }
 {}
@@ -122,7 +154,7 @@ pub fn noninterference_on_divided_processors()
         → AreAlike (run (boot a) before) (run (boot b) since) (Of S) (Of P)
         → AreTimed (run (boot a) before) (run (boot b) since) (Of P) (Of C)
         → (revokes ≡ true → AreRevokingWithin (run (boot a) before) (run (boot b) since) (Of S))
-        → AreAtWork revokes S (run (boot a) before) turns
+        → AreAtWork (fixed revokes) S (run (boot a) before) turns
         → filter C turns ≡ filter C others
         → AreAlikeAtHome (run (boot a) before) (run (boot b) since) turns others S P C }
 {}
@@ -138,7 +170,7 @@ pub fn a_run_comes_to_the_premises()
     ensures divided { IsDivided (run (boot two_homes) (replicate 66 0)) (Of first_domains) (Of other_domains) (Of first_objects) (Of first_processors) }
     ensures revoking { AreRevokingWithin (run (boot two_homes) (replicate 66 0)) (run (boot two_homes) (replicate 66 0)) (Of first_domains) }
     ensures acts { own_turn first_domains (run (boot two_homes) (replicate 66 0)) 0 ≡ Some (11, 13) }
-    ensures works { AreAtWorkTimeless true first_domains (run (boot two_homes) (replicate 66 0)) (replicate 18 0) }
+    ensures works { AreAtWorkTimeless (fixed true) first_domains (run (boot two_homes) (replicate 66 0)) (replicate 18 0) }
     ensures revokes { is_revoking (context (run (boot two_homes) (replicate 73 0)) 5).state ≡ true }
     ensures gives { deed (run (boot two_homes) (replicate 82 0)) 5 ≡ Gives given_page 2 }
 {}

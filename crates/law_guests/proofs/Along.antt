@@ -14,7 +14,7 @@ use Rattle.nova_model.specs.declared.deed.Deed.{Deed}
 use Rattle.law_isolation.specs.Sound.{IsVirtual}
 use Rattle.law_origins.proofs.Actors.{object_stays}
 use Rattle.law_integrity.specs.Confined.{Of, more}
-use Rattle.law_flow.specs.Flow.{AreAlike, AreAtWork, IsAtWork, IsPartitioned, RevokesNothing, own_turn, unnumbered, DerivesWithin}
+use Rattle.law_flow.specs.Flow.{AreAlike, AreAtWork, IsAtWork, IsPartitioned, RevokesNothing, own_turn, unnumbered, DerivesWithin, fixed}
 use Rattle.law_flow.proofs.Within.{own_at}
 use Rattle.law_flow.proofs.Away.{GoesHome, IsReached, away_at, away_further, home_at, home_further, sound_there, together_first, together_second}
 use Rattle.law_flow.proofs.Home.{AreTogether, HomeTurn}
@@ -43,7 +43,7 @@ quiet_at f k S P T cpu g r none is =
 
 -- in a turn of a processor of the side's both meet the same
 home_met : ViewFacts → (revokes : Bool) (k l : KernelState) (S P C : ℕ → Bool) (T U : ℕ → Type 0) (cpu g : ℕ) → IsReached k S P T → IsReached l S P U → AreAlike k l (Of S) (Of P) → HomeTurn revokes k l S P C cpu →
-    ((ec sc : ℕ) → own_turn S k cpu ≡ Some (ec, sc) → IsAtWork (Unit {0}) (RevokesNothing k (Of S)) (revokes ≡ true) k ec) → (revokes ≡ true → DerivesWithin k (Of S)) → IsGuestOf k S g → IsGuestOf l S g → input l cpu g ≡ input k cpu g
+    ((ec sc : ℕ) → own_turn S k cpu ≡ Some (ec, sc) → IsAtWork (Unit {0}) (RevokesNothing k (Of S)) (revokes ≡ true) (false ≡ true) k ec) → (revokes ≡ true → DerivesWithin k (Of S)) → IsGuestOf k S g → IsGuestOf l S g → input l cpu g ≡ input k cpu g
 home_met f revokes k l S P C T U cpu g r q alike step works within is also = by_own (own_turn S k cpu) refl (own_turn S l cpu) refl
   where
     deeds_so : (o p : Option (ℕ × ℕ)) → own_turn S k cpu ≡ o → own_turn S l cpu ≡ p →
@@ -63,7 +63,7 @@ home_met f revokes k l S P C T U cpu g r q alike step works within is also = by_
         let done : unnumbered (deed l o.0) ≡ unnumbered (deed k o.0) = ap (λ (n : ℕ). unnumbered (deed l n)) (sym who) ∙ ap (λ (x : ℕ × Deed). x.1) same in
         let twins : AreTwins k l S P = record { side = r.part.side; alike = alike; first = sound_there k S P T r; second = sound_there l S P U q } in
         let theirs : own_turn S l cpu ≡ Some (o.0, p.1) = second ∙ ap (λ (n : ℕ). Some (n, p.1)) who in
-        own_met f (Unit {0}) k l S P cpu cpu o.0 o.1 p.1 g twins first theirs (own_at (Unit {0}) (revokes ≡ true) S P T k cpu o.0 o.1 twins.first r.part first (works o.0 o.1 first) within) done is.virtual is.mine
+        own_met f (Unit {0}) (false ≡ true) k l S P cpu cpu o.0 o.1 p.1 g twins first theirs (own_at (Unit {0}) (revokes ≡ true) (false ≡ true) S P T k cpu o.0 o.1 twins.first r.part first (works o.0 o.1 first) within) done is.virtual is.mine
 
 -- the second goes on elsewhere alone
 none_elsewhere : ViewFacts → (S P C : ℕ → Bool) (us : List ℕ) (l : KernelState) (U : ℕ → Type 0) (g : ℕ) → GoesHome l S P C U us → IsGuestOf l S g → [] ≡ filter C us → inputs l us g ≡ []
@@ -80,7 +80,7 @@ none_elsewhere f S P C (cpu ∷ us) l U g h also none = by_test (C cpu) refl non
 
 -- the second goes on elsewhere until the next turn of a processor of the side's
 meets_next : ViewFacts → (revokes : Bool) (S P C : ℕ → Bool) (us : List ℕ) (k l : KernelState) (T U : ℕ → Type 0) (cpu : ℕ) (ts : List ℕ) (g : ℕ) → C cpu ≡ true → GoesHome k S P C T (cpu ∷ ts) →
-    ((ec sc : ℕ) → own_turn S k cpu ≡ Some (ec, sc) → IsAtWork (Unit {0}) (RevokesNothing k (Of S)) (revokes ≡ true) k ec) → GoesHome l S P C U us → AreAlike k l (Of S) (Of P) → AreTogether revokes k l S P C → IsGuestOf k S g → IsGuestOf l S g →
+    ((ec sc : ℕ) → own_turn S k cpu ≡ Some (ec, sc) → IsAtWork (Unit {0}) (RevokesNothing k (Of S)) (revokes ≡ true) (false ≡ true) k ec) → GoesHome l S P C U us → AreAlike k l (Of S) (Of P) → AreTogether revokes k l S P C → IsGuestOf k S g → IsGuestOf l S g →
     cpu ∷ filter C ts ≡ filter C us →
     ((vs : List ℕ) (m : KernelState) (V : ℕ → Type 0) → GoesHome m S P C V vs → AreAlike (after k cpu) m (Of S) (Of P) → AreTogether revokes (after k cpu) m S P C → IsGuestOf m S g → filter C ts ≡ filter C vs →
     inputs m vs g ≡ inputs (after k cpu) ts g) → inputs l us g ≡ in_front (input k cpu g) (inputs (after k cpu) ts g)
@@ -102,20 +102,20 @@ meets_next f revokes S P C (other ∷ us) k l T U cpu ts g c first works h alike
         let tails : filter C ts ≡ filter C us = cc in
         let step = home_at revokes k l S P C T U cpu first.reached h.reached alike timed first.home.0 h.home.0 works c in
         let rest_same = later us (after l other) (more l U other)
-        (record { reached = home_further revokes l S P C U other h.reached h.home.0 in_ (subst (λ (n : ℕ). (ec sc : ℕ) → own_turn S l n ≡ Some (ec, sc) → IsAtWork (Unit {0}) (RevokesNothing l (Of S)) (revokes ≡ true) l ec) one step.works) (λ yes. (timed.within yes).second); home = h.home.1 })
+        (record { reached = home_further revokes l S P C U other h.reached h.home.0 in_ (subst (λ (n : ℕ). (ec sc : ℕ) → own_turn S l n ≡ Some (ec, sc) → IsAtWork (Unit {0}) (RevokesNothing l (Of S)) (revokes ≡ true) (false ≡ true) l ec) one step.works) (λ yes. (timed.within yes).second); home = h.home.1 })
         (subst (λ (n : ℕ). AreAlike (after k cpu) (after l n) (Of S) (Of P)) one step.alike) (subst (λ (n : ℕ). AreTogether revokes (after k cpu) (after l n) S P C) one step.timed)
         (guest_next l S g other also) tails in
         ap₂ (λ (o : Option Input) (is : List Input). in_front o is)
         (sym (ap (λ (n : ℕ). input l n g) one) ∙ home_met f revokes k l S P C T U cpu g first.reached h.reached alike step works (λ yes. (timed.within yes).first) is also) rest_same
 
-pub inputs_along : ViewFacts → (revokes : Bool) (S P C : ℕ → Bool) (ts us : List ℕ) (k l : KernelState) (T U : ℕ → Type 0) (g : ℕ) → GoesHome k S P C T ts → AreAtWork revokes S k ts → GoesHome l S P C U us → AreAlike k l (Of S) (Of P) →
+pub inputs_along : ViewFacts → (revokes : Bool) (S P C : ℕ → Bool) (ts us : List ℕ) (k l : KernelState) (T U : ℕ → Type 0) (g : ℕ) → GoesHome k S P C T ts → AreAtWork (fixed revokes) S k ts → GoesHome l S P C U us → AreAlike k l (Of S) (Of P) →
     AreTogether revokes k l S P C → IsGuestOf k S g → IsGuestOf l S g → filter C ts ≡ filter C us → inputs l us g ≡ inputs k ts g
 inputs_along f revokes S P C [] us k l T U g first works h alike timed is also same = none_elsewhere f S P C us l U g h also same
 inputs_along f revokes S P C (cpu ∷ ts) us k l T U g first works h alike timed is also same =
     by_test (C cpu) refl same (λ j vs m V W next at_work second a t one other rest. inputs_along f revokes S P C ts vs j m V W g next at_work second a t one other rest)
   where
     by_test : (t : Bool) → C cpu ≡ t → (if t then cpu ∷ filter C ts else filter C ts) ≡ filter C us →
-        ((j : KernelState) (vs : List ℕ) (m : KernelState) (V W : ℕ → Type 0) → GoesHome j S P C V ts → AreAtWork revokes S j ts → GoesHome m S P C W vs → AreAlike j m (Of S) (Of P) → AreTogether revokes j m S P C →
+        ((j : KernelState) (vs : List ℕ) (m : KernelState) (V W : ℕ → Type 0) → GoesHome j S P C V ts → AreAtWork (fixed revokes) S j ts → GoesHome m S P C W vs → AreAlike j m (Of S) (Of P) → AreTogether revokes j m S P C →
         IsGuestOf j S g → IsGuestOf m S g → filter C ts ≡ filter C vs → inputs m vs g ≡ inputs j ts g) →
         inputs l us g ≡ in_front (input k cpu g) (inputs (after k cpu) ts g)
     by_test true c rest later =

@@ -16,7 +16,7 @@ use Rattle.law_renaming.specs.Forced.{agree, forced, once}
 use Rattle.law_renaming.specs.Verdicts.{Differ, Equal, IsVerdict, SayTheSame, Verdict, Views, compared, most}
 use Rattle.law_guests.proofs.Facts.{ComparingFacts, ViewFacts}
 use Rattle.law_integrity.specs.Confined.{Of}
-use Rattle.law_flow.specs.Flow.{AreAlike, AreAtWork, IsPartitioned}
+use Rattle.law_flow.specs.Flow.{AreAlike, AreAtWork, IsPartitioned, fixed}
 use Rattle.law_flow.proofs.Away.{GoesHome}
 use Rattle.law_flow.proofs.Home.{AreTogether}
 use Rattle.law_flow.proofs.Turns.{alike_flipped}
@@ -62,7 +62,7 @@ one_guest c a b begins = record {
 }
 
 pub guests_home : ViewFacts → ComparingFacts → (revokes : Bool) (a b : Scenario) (before since turns others : List ℕ) (S P C : ℕ → Bool) (T U : ℕ → Type 0) (g : ℕ) →
-    IsPartitioned (run (boot a) before) (Of S) T (Of P) → GoesHome (run (boot a) before) S P C T turns → AreAtWork revokes S (run (boot a) before) turns → GoesHome (run (boot b) since) S P C U others →
+    IsPartitioned (run (boot a) before) (Of S) T (Of P) → GoesHome (run (boot a) before) S P C T turns → AreAtWork (fixed revokes) S (run (boot a) before) turns → GoesHome (run (boot b) since) S P C U others →
     AreAlike (run (boot a) before) (run (boot b) since) (Of S) (Of P) → AreTogether revokes (run (boot a) before) (run (boot b) since) S P C → filter C turns ≡ filter C others →
     IsVirtual (run (boot a) before) g → S (pd_of (run (boot a) before) g) ≡ true → AreOneGuest (watched a before g turns) (watched b since g others)
 guests_home f c revokes a b before since turns others S P C T U g part goes works also alike timed same virtual mine =

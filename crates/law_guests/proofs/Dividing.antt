@@ -6,7 +6,7 @@ use Rattle.nova_model.specs.Runs.{run}
 use Rattle.nova_model.specs.State.{pd_of}
 use Rattle.law_isolation.specs.Sound.{IsVirtual}
 use Rattle.law_integrity.specs.Confined.{Of}
-use Rattle.law_flow.specs.Flow.{AreAlike, AreAtWork, AreRevokingWithin, IsPartitioned}
+use Rattle.law_flow.specs.Flow.{AreAlike, AreAtWork, AreRevokingWithin, IsPartitioned, fixed}
 use Rattle.law_flow.specs.Processors.{AreTimed, IsDivided}
 use Rattle.law_flow.proofs.Away.{GoesHome}
 use Rattle.law_flow.proofs.Divided.{home_along}
@@ -18,7 +18,7 @@ use Rattle.law_guests.proofs.Comparing.{guests_home}
 pub guests_divided : ViewFacts → ComparingFacts → (revokes : Bool) (a b : Scenario) (before since turns others : List ℕ) (S T U P C : ℕ → Bool) (g : ℕ) →
     IsPartitioned (run (boot a) before) (Of S) (Of T) (Of P) → IsPartitioned (run (boot b) since) (Of S) (Of U) (Of P) →
     IsDivided (run (boot a) before) (Of S) (Of T) (Of P) (Of C) → IsDivided (run (boot b) since) (Of S) (Of U) (Of P) (Of C) →
-    AreAlike (run (boot a) before) (run (boot b) since) (Of S) (Of P) → AreTimed (run (boot a) before) (run (boot b) since) (Of P) (Of C) → (revokes ≡ true → AreRevokingWithin (run (boot a) before) (run (boot b) since) (Of S)) → AreAtWork revokes S (run (boot a) before) turns →
+    AreAlike (run (boot a) before) (run (boot b) since) (Of S) (Of P) → AreTimed (run (boot a) before) (run (boot b) since) (Of P) (Of C) → (revokes ≡ true → AreRevokingWithin (run (boot a) before) (run (boot b) since) (Of S)) → AreAtWork (fixed revokes) S (run (boot a) before) turns →
     filter C turns ≡ filter C others → IsVirtual (run (boot a) before) g → S (pd_of (run (boot a) before) g) ≡ true → AreOneGuest (watched a before g turns) (watched b since g others)
 guests_divided f c revokes a b before since turns others S T U P C g first second divided also alike timed takes works same virtual mine =
     let goes : GoesHome (run (boot a) before) S P C (Of T) turns =

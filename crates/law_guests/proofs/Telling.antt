@@ -56,13 +56,14 @@ use Rattle.law_integrity.specs.Confined.{IsMember, IsOwned, Of, Reach}
 use Rattle.law_integrity.proofs.Confining.{member_pd}
 use Rattle.law_integrity.proofs.Resting.{acts_in}
 use Rattle.law_integrity.proofs.Stores.{leads_to}
-use Rattle.law_flow.specs.Flow.{AreGivingWithin, AreRevokingWithin, HasSameClock, IsAtWork, IsPartitioned, IsSide, own_turn, unnumbered}
+use Rattle.law_flow.specs.Flow.{AreCreatingAlone, AreGivingWithin, AreRevokingWithin, HasSameClock, IsAtWork, IsPartitioned, IsSide, own_turn, unnumbered}
+use Rattle.law_flow.proofs.Creating.{AreMaking}
 use Rattle.law_flow.proofs.Deciding.{IsOwn}
 use Rattle.law_flow.proofs.Doing.{frames_same}
 use Rattle.law_flow.proofs.Giving.{child_leads}
 use Rattle.law_flow.proofs.Guarding.{own_from}
 use Rattle.law_flow.proofs.Leaving.{others_leave}
-use Rattle.law_flow.proofs.Pairs.{Alone, IsOwnDeed, Leaf, Part, first_own}
+use Rattle.law_flow.proofs.Pairs.{Alone, IsOwnDeed, Leaf, New, Part, first_own}
 use Rattle.law_flow.proofs.Parts.{IsPart}
 use Rattle.law_flow.proofs.Seeing.{Both, address_same, frame_same, instruction_same, message_same}
 use Rattle.law_flow.proofs.Turns.{AreTwins, alike_flipped, both, decided, own_acts, own_is, own_of, own_there}
@@ -306,13 +307,14 @@ part_same k l S P b forest ec g domain child cursor part =
         kind_of : is_memory_of (pd_of k g) child ≡ true → is_memory child.kind ≡ true
         kind_of h = (and_parts (is_memory child.kind) (child.pd == pd_of k g) h).0
 
-own_others_same : (timed : Type 0) (k l : KernelState) (S P : ℕ → Type 0) → Both k l S P → IsForest k.delegations → (ec g : ℕ) → P ec → S (pd_of k ec) → pd_of l g ≡ pd_of k g →
-    ((f : ℕ) → is_covered_for l (pd_of l g) f ≡ is_covered_for k (pd_of k g) f) → (d : Deed) → IsOwnDeed timed k S P d → others_input l ec g d ≡ others_input k ec g d
-own_others_same timed k l S P b forest ec g p s domain covers d (Alone own) = others_same timed k l S P b ec g p s covers d own
-own_others_same timed k l S P b forest ec g p s domain covers d (Part child cursor is part) =
+own_others_same : (timed creating : Type 0) (k l : KernelState) (S P : ℕ → Type 0) → Both k l S P → IsForest k.delegations → (ec g : ℕ) → P ec → S (pd_of k ec) → pd_of l g ≡ pd_of k g →
+    ((f : ℕ) → is_covered_for l (pd_of l g) f ≡ is_covered_for k (pd_of k g) f) → (d : Deed) → IsOwnDeed timed creating k S P d → others_input l ec g d ≡ others_input k ec g d
+own_others_same timed creating k l S P b forest ec g p s domain covers d (Alone own) = others_same timed k l S P b ec g p s covers d own
+own_others_same timed creating k l S P b forest ec g p s domain covers d (Part child cursor is part) =
     ap (others_input l ec g) is ∙ part_same k l S P b forest ec g domain child cursor part ∙ sym (ap (others_input k ec g) is)
-own_others_same timed k l S P b forest ec g p s domain covers d (Leaf leaf is mine) =
+own_others_same timed creating k l S P b forest ec g p s domain covers d (Leaf leaf is mine) =
     ap (others_input l ec g) is ∙ ap (λ (n : ℕ). only_if (is_memory_of n leaf) (input_as.Taken leaf.base leaf.order)) domain ∙ sym (ap (others_input k ec g) is)
+own_others_same timed creating k l S P b forest ec g p s domain covers d (New call target made is creates of) = ap (others_input l ec g) is ∙ sym (ap (others_input k ec g) is)
 
 -- numbers of ranges don't matter
 numberless : (k : KernelState) (ec g : ℕ) (d : Deed) → input_of k ec g (unnumbered d) ≡ input_of k ec g d
@@ -325,9 +327,9 @@ same_of : (k l : KernelState) (ec g : ℕ) (d : Deed) → others_input l ec g d 
 unfolding input_of
 same_of k l ec g d same = ap (λ (o : Option Input). if ec == g then own_input d else o) same
 
-pub own_met : ViewFacts → (timed : Type 0) (k l : KernelState) (S P : ℕ → Bool) (cpu other ec sc paid g : ℕ) → AreTwins k l S P → own_turn S k cpu ≡ Some (ec, sc) → own_turn S l other ≡ Some (ec, paid) → IsOwnDeed timed k (Of S) (Of P) (deed k ec) →
+pub own_met : ViewFacts → (timed creating : Type 0) (k l : KernelState) (S P : ℕ → Bool) (cpu other ec sc paid g : ℕ) → AreTwins k l S P → own_turn S k cpu ≡ Some (ec, sc) → own_turn S l other ≡ Some (ec, paid) → IsOwnDeed timed creating k (Of S) (Of P) (deed k ec) →
     unnumbered (deed l ec) ≡ unnumbered (deed k ec) → IsVirtual k g → S (pd_of k g) ≡ true → input l other g ≡ input k cpu g
-own_met f timed k l S P cpu other ec sc paid g t own also does same virtual mine =
+own_met f timed creating k l S P cpu other ec sc paid g t own also does same virtual mine =
     let its = own_is S k cpu ec sc own in
     let b = both k l S P t in
     let p = own_there S k (Of P) cpu ec sc t.first t.side its in
@@ -337,11 +339,11 @@ own_met f timed k l S P cpu other ec sc paid g t own also does same virtual mine
     λ f. sym (view_covers l g f t.second) ∙ ap (λ (v : Guest). is_covered v.maps f) views ∙ view_covers k g f t.first in
     input_is l other ec g (own_acts S l other ec paid (own_is S l other ec paid also))
     ∙ sym (numberless l ec g (deed l ec)) ∙ ap (input_of l ec g) same ∙ numberless l ec g (deed k ec)
-    ∙ same_of k l ec g (deed k ec) (own_others_same timed k l (Of S) (Of P) b t.first.forest ec g p its.of (domain_same k l (Of S) (Of P) t.alike g q) covers (deed k ec) does)
+    ∙ same_of k l ec g (deed k ec) (own_others_same timed creating k l (Of S) (Of P) b t.first.forest ec g p its.of (domain_same k l (Of S) (Of P) t.alike g q) covers (deed k ec) does)
     ∙ sym (input_is k cpu ec g (own_acts S k cpu ec sc its))
 
-pub own_tells_same : ViewFacts → (k l : KernelState) (S P : ℕ → Bool) (cpu other ec sc g : ℕ) → AreTwins k l S P → own_turn S k cpu ≡ Some (ec, sc) → own_turn S l other ≡ Some (ec, sc) → IsAtWork (HasSameClock k l ec) (AreGivingWithin k l (Of S) ec) (AreRevokingWithin k l (Of S)) k ec →
+pub own_tells_same : ViewFacts → (k l : KernelState) (S P : ℕ → Bool) (cpu other ec sc g : ℕ) → AreTwins k l S P → own_turn S k cpu ≡ Some (ec, sc) → own_turn S l other ≡ Some (ec, sc) → IsAtWork (HasSameClock k l ec) (AreGivingWithin k l (Of S) ec) (AreRevokingWithin k l (Of S)) (AreCreatingAlone k l (Of S) (Of P)) k ec →
     IsVirtual k g → S (pd_of k g) ≡ true → input l other g ≡ input k cpu g
 own_tells_same f k l S P cpu other ec sc g t own also works virtual mine =
-    own_met f (HasSameClock k l ec) k l S P cpu other ec sc sc g t own also
-    (first_own (HasSameClock k l ec) k l (Of S) (Of P) (deed k ec) (deed l ec) (own_of k l S P cpu ec sc t own works)) (decided k l S P cpu ec sc t own works) virtual mine
+    own_met f (HasSameClock k l ec) (AreMaking k l (Of S) (Of P)) k l S P cpu other ec sc sc g t own also
+    (first_own (HasSameClock k l ec) (AreMaking k l (Of S) (Of P)) k l (Of S) (Of P) (deed k ec) (deed l ec) (own_of k l S P cpu ec sc t own works)) (decided k l S P cpu ec sc t own works) virtual mine

@@ -11,7 +11,7 @@ ghost use Rattle.nova_model.specs.Views.{view};
 ghost use Rattle.law_isolation.specs.Sound.{IsSound, IsVirtual};
 ghost use Rattle.law_integrity.specs.Confined.{Of};
 ghost use Rattle.law_flow.specs.Examples.{first_domains, two_homes};
-ghost use Rattle.law_flow.specs.Flow.{AreAlike, AreAtWork, AreGivingWithin, AreRevokingWithin, IsAtWork, HasSameClock, IsPartitioned, IsSide, own_turn};
+ghost use Rattle.law_flow.specs.Flow.{AreCreatingAlone, AreAlike, AreAtWork, AreGivingWithin, AreRevokingWithin, IsAtWork, HasSameClock, IsPartitioned, IsSide, own_turn, fixed};
 ghost use Rattle.law_flow.specs.Processors.{AreAtHome, AreTimed, IsDivided};
 ghost use Rattle.law_guests.specs.Guests.{AreOneGuest, only, turns_of, watched};
 ghost use Rattle.std.specs.Prelude.{None, Some};
@@ -25,7 +25,7 @@ pub fn a_sides_part_tells_what_its_guests_are_and_meet()
         → IsVirtual k g → S (pd_of k g) ≡ true → view l g ≡ view k g }
     ensures inputs { (k l : KernelState) (S P : ℕ → Bool) (cpu other ec sc g : ℕ) → IsSound k → IsSound l → IsSide k (Of S) (Of P) → AreAlike k l (Of S) (Of P)
         → own_turn S k cpu ≡ Some (ec, sc) → own_turn S l other ≡ Some (ec, sc)
-        → IsAtWork (HasSameClock k l ec) (AreGivingWithin k l (Of S) ec) (AreRevokingWithin k l (Of S)) k ec
+        → IsAtWork (HasSameClock k l ec) (AreGivingWithin k l (Of S) ec) (AreRevokingWithin k l (Of S)) (AreCreatingAlone k l (Of S) (Of P)) k ec
         → IsVirtual k g → S (pd_of k g) ≡ true → input l other g ≡ input k cpu g }
     ensures nothing { (scenario : Scenario) (turns : List ℕ) (S T P : ℕ → Bool) (cpu g : ℕ)
         → IsPartitioned (run (boot scenario) turns) (Of S) (Of T) (Of P) → own_turn S (run (boot scenario) turns) cpu ≡ None
@@ -49,7 +49,7 @@ pub fn a_guest_at_home_is_one_guest()
         → AreAlike (run (boot a) before) (run (boot b) since) (Of S) (Of P)
         → AreTimed (run (boot a) before) (run (boot b) since) (Of P) (Of C)
         → (revokes ≡ true → AreRevokingWithin (run (boot a) before) (run (boot b) since) (Of S))
-        → AreAtWork revokes S (run (boot a) before) turns
+        → AreAtWork (fixed revokes) S (run (boot a) before) turns
         → filter C turns ≡ filter C others
         → IsVirtual (run (boot a) before) g → S (pd_of (run (boot a) before) g) ≡ true
         → AreOneGuest (watched a before g turns) (watched b since g others) }
@@ -72,7 +72,7 @@ pub fn a_guest_on_divided_processors_is_one_guest()
         → AreAlike (run (boot a) before) (run (boot b) since) (Of S) (Of P)
         → AreTimed (run (boot a) before) (run (boot b) since) (Of P) (Of C)
         → (revokes ≡ true → AreRevokingWithin (run (boot a) before) (run (boot b) since) (Of S))
-        → AreAtWork revokes S (run (boot a) before) turns
+        → AreAtWork (fixed revokes) S (run (boot a) before) turns
         → filter C turns ≡ filter C others
         → IsVirtual (run (boot a) before) g → S (pd_of (run (boot a) before) g) ≡ true
         → AreOneGuest (watched a before g turns) (watched b since g others) }
@@ -82,7 +82,7 @@ pub fn a_guest_on_divided_processors_is_one_guest()
         → AreAlike (run (boot a) before) (run (boot b) since) (Of S) (Of P)
         → AreTimed (run (boot a) before) (run (boot b) since) (Of P) (Of (only cpu))
         → (revokes ≡ true → AreRevokingWithin (run (boot a) before) (run (boot b) since) (Of S))
-        → AreAtWork revokes S (run (boot a) before) turns
+        → AreAtWork (fixed revokes) S (run (boot a) before) turns
         → turns_of cpu turns ≡ turns_of cpu others
         → IsVirtual (run (boot a) before) g → S (pd_of (run (boot a) before) g) ≡ true
         → AreOneGuest (watched a before g turns) (watched b since g others) }

@@ -1,6 +1,6 @@
 -- Turns that are admitted leave a side's part alone, or come to no more than their entries; so do turns in which nobody acts.
 use Rattle.std.proofs.Common.{◌≡◌, ℕ, List, [], ◌∷◌, ◌++◌, refl, sym, ap, ◌∙◌, subst}
-use Rattle.std.specs.Prelude.{Bool, true, Contains, IsSome, slice_get, option_and_then, Option, Some, None}
+use Rattle.std.specs.Prelude.{Bool, true, false, Contains, IsSome, slice_get, option_and_then, Option, Some, None}
 use Rattle.std.proofs.lemmas.Option.{slice_get_within}
 use Rattle.nova_objects.specs.declared.object.Object.{Object}
 use Rattle.nova_model.specs.Boot.{Scenario, boot}
@@ -18,7 +18,8 @@ use Rattle.law_origins.proofs.Lists.{run_append}
 use Rattle.law_integrity.specs.Confined.{Of}
 use Rattle.law_integrity.specs.Integrity.{IsByTime}
 use Rattle.law_integrity.proofs.Passing.{coming, due_in, turned_by_time}
-use Rattle.law_flow.specs.Flow.{AreAlike, AreAtWorkTimeless, AreGivingWithin, AreRevokingWithin, DerivesWithin, HasSameClock, IsAtWork, IsLeftAlone, IsSide, IsTimeless, RevokesNothing, own_turn}
+use Rattle.law_flow.specs.Flow.{AreAlike, AreAtWorkTimeless, AreCreatingAlone, AreGivingWithin, AreRevokingWithin, DerivesWithin, HasSameClock, IsAtWork, IsLeftAlone, IsSide, IsTimeless, RevokesNothing, own_turn, fixed}
+use Rattle.law_flow.proofs.Pairs.{never}
 use Rattle.law_flow.proofs.Deriving.{revoking_itself}
 use Rattle.law_flow.proofs.Leaving.{some_there}
 use Rattle.law_flow.proofs.Others.{side_left, time_leaves, timeless_foreign}
@@ -80,13 +81,13 @@ served_side k S P cpu None served = served.side
 served_side k S P cpu (Some e) served = served.side
 
 pub served_along : (revokes : Bool) (s : Scenario) (before turns : List ℕ) (S P : ℕ → Bool) → IsSide (run (boot s) before) (Of S) (Of P) → ((n : ℕ) → P n ≡ true → IsSome (slice_get (run (boot s) before).objects n)) →
-    (revokes ≡ true → DerivesWithin (run (boot s) before) (Of S)) → AreAdmitted S P (run (boot s) before) turns → AreAtWorkTimeless revokes S (run (boot s) before) turns → AreServed revokes S P (run (boot s) before) turns
+    (revokes ≡ true → DerivesWithin (run (boot s) before) (Of S)) → AreAdmitted S P (run (boot s) before) turns → AreAtWorkTimeless (fixed revokes) S (run (boot s) before) turns → AreServed revokes S P (run (boot s) before) turns
 served_along revokes s before [] S P side there within admitted works = tt
 served_along revokes s before (cpu ∷ turns) S P side there within admitted works = (
   λ none. admits s before S P cpu side there none (admitted.0 none),
   admitted.1,
   within,
-  by_own (own_turn S (run (boot s) before) cpu) refl (λ later derives. subst (λ (l : KernelState). AreAdmitted S P l turns → AreAtWorkTimeless revokes S l turns → AreServed revokes S P l turns) next
+  by_own (own_turn S (run (boot s) before) cpu) refl (λ later derives. subst (λ (l : KernelState). AreAdmitted S P l turns → AreAtWorkTimeless (fixed revokes) S l turns → AreServed revokes S P l turns) next
       (λ admitted_later works_later. served_along revokes s (before ++ cpu ∷ []) turns S P (subst (λ (l : KernelState). IsSide l (Of S) (Of P)) (sym next) later)
       (λ n p. subst (λ (l : KernelState). IsSome (slice_get l.objects n)) (sym next) (stays_there n p))
       (λ yes. subst (λ (l : KernelState). DerivesWithin l (Of S)) (sym next) (derives yes)) admitted_later works_later) admitted.2 works.1),
@@ -111,7 +112,7 @@ served_along revokes s before (cpu ∷ turns) S P side there within admitted wor
         let sound = reached_sound s before in
         let twins : AreTwins k k S P = record { side = side; alike = alike_itself k S P; first = sound; second = sound } in
         let its = own_is S k cpu p.0 p.1 is in
-        let working : IsAtWork (HasSameClock k k p.0) (AreGivingWithin k k (Of S) p.0) (AreRevokingWithin k k (Of S)) k p.0 =
-        working_both (RevokesNothing k (Of S)) (revokes ≡ true) k k S P p.0 twins (own_there S k (Of P) cpu p.0 p.1 sound side its) its.of (works.0 p.0 p.1 is) (admitted.1 p.0 p.1 is) (admitted.1 p.0 p.1 is)
-        (λ yes. revoking_itself k (Of S) sound (within yes)) in
+        let working : IsAtWork (HasSameClock k k p.0) (AreGivingWithin k k (Of S) p.0) (AreRevokingWithin k k (Of S)) (AreCreatingAlone k k (Of S) (Of P)) k p.0 =
+        working_both (RevokesNothing k (Of S)) (revokes ≡ true) (false ≡ true) k k S P p.0 twins (own_there S k (Of P) cpu p.0 p.1 sound side its) its.of (works.0 p.0 p.1 is) (admitted.1 p.0 p.1 is) (admitted.1 p.0 p.1 is)
+        (λ yes. revoking_itself k (Of S) sound (within yes)) (λ h. absurd (never h)) in
         later (own_side k k S P cpu p.0 p.1 twins is working) (λ yes. own_derives_too k S P cpu p.0 p.1 twins is working (within yes))

@@ -1,6 +1,6 @@
 -- Two runs in which the same happens to a side's part, in the same order.
 use Rattle.std.proofs.Common.{◌≡◌, ℕ, List, [], ◌∷◌, ◌++◌, refl, sym, ap, ap₂, ◌∙◌, subst}
-use Rattle.std.specs.Prelude.{Bool, true, Option, Some, None}
+use Rattle.std.specs.Prelude.{Bool, true, false, Option, Some, None}
 use Rattle.nova_model.specs.Choice.{in_front}
 use Rattle.nova_model.specs.Deeds.{deed}
 use Rattle.nova_model.specs.Runs.{after, run}
@@ -10,7 +10,8 @@ use Rattle.nova_model.specs.declared.log.LogByte.{LogByte}
 use Rattle.law_isolation.specs.Sound.{IsSound}
 use Rattle.law_isolation.proofs.Runs.{turn_sound}
 use Rattle.law_integrity.specs.Confined.{Of}
-use Rattle.law_flow.specs.Flow.{AreAtWorkTimeless, AreDerivedAlike, AreGivingWithin, AreRevokingWithin, DerivesWithin, GivesWithin, HasSameClock, IsAtWork, RevokesNothing, gain_for, own_bytes, own_deeds, own_turn, unnumbered}
+use Rattle.law_flow.specs.Flow.{AreAtWorkTimeless, AreCreatingAlone, AreDerivedAlike, AreGivingWithin, AreRevokingWithin, DerivesWithin, GivesWithin, HasSameClock, IsAtWork, RevokesNothing, gain_for, own_bytes, own_deeds, own_turn, unnumbered, fixed}
+use Rattle.law_flow.proofs.Pairs.{never}
 use Rattle.law_flow.proofs.Taking.{GainsNone, derived_kept, left_gains}
 use Rattle.law_flow.proofs.Turns.{AreTwins, EndSame, Ends, OwnDeed, alike_flipped, alike_through, decided, deed_for, own_alike, own_derived, own_gains, own_is, own_side, own_there, working_both}
 use Rattle.law_service.specs.Service.{AreServed, Enters, Entry, IsEntered, IsServedBy, Own, course, entry_in, happening_of}
@@ -83,7 +84,7 @@ both_entered revokes S P k l cpu other e p first second =
 
 -- the side's own
 pub both_own : (revokes : Bool) (S P : ℕ → Bool) (k l : KernelState) (cpu other ec sc : ℕ) → ArePaired revokes k l S P → own_turn S k cpu ≡ Some (ec, sc) → own_turn S l other ≡ Some (ec, sc) →
-    IsAtWork (HasSameClock k l ec) (AreGivingWithin k l (Of S) ec) (AreRevokingWithin k l (Of S)) k ec → ArePaired revokes (after k cpu) (after l other) S P
+    IsAtWork (HasSameClock k l ec) (AreGivingWithin k l (Of S) ec) (AreRevokingWithin k l (Of S)) (AreCreatingAlone k l (Of S) (Of P)) k ec → ArePaired revokes (after k cpu) (after l other) S P
 both_own revokes S P k l cpu other ec sc p own also works =
     let t = p.twins in
     record {
@@ -118,18 +119,18 @@ abbrev GoesOn : Bool → KernelState → List ℕ → (ℕ → Bool) → (ℕ �
 GoesOn revokes k ts S P = (vs : List ℕ) (m : KernelState) → ArePaired revokes k m S P → AreServed revokes S P m vs → course S P k ts ≡ course S P m vs → Ends k ts m vs S P
 
 -- until its next turn of the side's, which is as the first's
-own_matched : (revokes : Bool) (S P : ℕ → Bool) (us : List ℕ) (k l : KernelState) (cpu : ℕ) (ts : List ℕ) (p : ℕ × ℕ) → own_turn S k cpu ≡ Some p → IsAtWork ⊥ (RevokesNothing k (Of S)) (revokes ≡ true) k p.0 → GivesWithin S k cpu →
+own_matched : (revokes : Bool) (S P : ℕ → Bool) (us : List ℕ) (k l : KernelState) (cpu : ℕ) (ts : List ℕ) (p : ℕ × ℕ) → own_turn S k cpu ≡ Some p → IsAtWork ⊥ (RevokesNothing k (Of S)) (revokes ≡ true) (false ≡ true) k p.0 → GivesWithin S k cpu →
     (revokes ≡ true → DerivesWithin k (Of S)) → ArePaired revokes k l S P → AreServed revokes S P l us → Own p.0 p.1 ∷ course S P (after k cpu) ts ≡ course S P l us → GoesOn revokes (after k cpu) ts S P →
     EndSame (run (after k cpu) ts) (run l us) S P ((p.0, unnumbered (deed k p.0)) ∷ own_deeds S (after k cpu) ts) (own_deeds S l us) (gain_for k cpu (Some p) ++ own_bytes S (after k cpu) ts) (own_bytes S l us)
 own_matched revokes S P [] k l cpu ts p own works within derives t served same later = absurd (cc)
 own_matched revokes S P (other ∷ us) k l cpu ts p own works within derives t served same later =
     by_own (own_turn S l other) refl (entry_in P l other) refl same (λ next rest. own_matched revokes S P us k (after l other) cpu ts p own works within derives next served.3 rest later)
   where
-    timed : own_turn S l other ≡ Some (p.0, p.1) → IsAtWork (HasSameClock k l p.0) (AreGivingWithin k l (Of S) p.0) (AreRevokingWithin k l (Of S)) k p.0
+    timed : own_turn S l other ≡ Some (p.0, p.1) → IsAtWork (HasSameClock k l p.0) (AreGivingWithin k l (Of S) p.0) (AreRevokingWithin k l (Of S)) (AreCreatingAlone k l (Of S) (Of P)) k p.0
     timed also =
         let its = own_is S k cpu p.0 p.1 own in
-        working_both (RevokesNothing k (Of S)) (revokes ≡ true) k l S P p.0 t.twins (own_there S k (Of P) cpu p.0 p.1 t.twins.first t.twins.side its) its.of works (within p.0 p.1 own) (served.1 p.0 p.1 also)
-        (λ yes. record { alike = t.derived yes; first = derives yes; second = served.2 yes })
+        working_both (RevokesNothing k (Of S)) (revokes ≡ true) (false ≡ true) k l S P p.0 t.twins (own_there S k (Of P) cpu p.0 p.1 t.twins.first t.twins.side its) its.of works (within p.0 p.1 own) (served.1 p.0 p.1 also)
+        (λ yes. record { alike = t.derived yes; first = derives yes; second = served.2 yes }) (λ h. absurd (never h))
 
     by_own : (o : Option (ℕ × ℕ)) → own_turn S l other ≡ o → (e : Option Entry) → entry_in P l other ≡ e →
         Own p.0 p.1 ∷ course S P (after k cpu) ts ≡ in_front (happening_of o e) (course S P (after l other) us) →
@@ -178,14 +179,14 @@ entry_matched revokes S P (other ∷ us) k l cpu ts e entered t served same late
 
 -- BOTH
 
-pub served_alike : (revokes : Bool) (S P : ℕ → Bool) (ts us : List ℕ) (k l : KernelState) → ArePaired revokes k l S P → AreServed revokes S P k ts → AreServed revokes S P l us → AreAtWorkTimeless revokes S k ts →
+pub served_alike : (revokes : Bool) (S P : ℕ → Bool) (ts us : List ℕ) (k l : KernelState) → ArePaired revokes k l S P → AreServed revokes S P k ts → AreServed revokes S P l us → AreAtWorkTimeless (fixed revokes) S k ts →
     course S P k ts ≡ course S P l us → Ends k ts l us S P
 served_alike revokes S P [] us k l t first second works same = nothing_more revokes S P us k l t second same
 served_alike revokes S P (cpu ∷ ts) us k l t first second works same =
     by_own (own_turn S k cpu) refl (entry_in P k cpu) refl same (λ j vs m next one other at_work also. served_alike revokes S P ts vs j m next one other at_work also)
   where
     by_own : (o : Option (ℕ × ℕ)) → own_turn S k cpu ≡ o → (e : Option Entry) → entry_in P k cpu ≡ e → in_front (happening_of o e) (course S P (after k cpu) ts) ≡ course S P l us →
-        ((j : KernelState) (vs : List ℕ) (m : KernelState) → ArePaired revokes j m S P → AreServed revokes S P j ts → AreServed revokes S P m vs → AreAtWorkTimeless revokes S j ts → course S P j ts ≡ course S P m vs → Ends j ts m vs S P) →
+        ((j : KernelState) (vs : List ℕ) (m : KernelState) → ArePaired revokes j m S P → AreServed revokes S P j ts → AreServed revokes S P m vs → AreAtWorkTimeless (fixed revokes) S j ts → course S P j ts ≡ course S P m vs → Ends j ts m vs S P) →
         EndSame (run (after k cpu) ts) (run l us) S P (DeedsFrom S k cpu ts) (own_deeds S l us) (BytesFrom S k cpu ts) (own_bytes S l us)
     by_own None is None at rest later =
         let ended = later (after k cpu) us l (idle_first revokes S P k l cpu t (subst (IsServedBy k (Of S) (Of P) cpu) at (first.0 is))) first.3 second works.1 rest in

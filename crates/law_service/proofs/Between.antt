@@ -24,7 +24,7 @@ use Rattle.nova_utcb.specs.Messages.{copied, exited}
 use Rattle.law_forest.proofs.Members.{IsIn, all_at, in_from_contains}
 use Rattle.law_origins.specs.Giving.{Acts}
 use Rattle.law_integrity.specs.Confined.{Of}
-use Rattle.law_flow.specs.Flow.{AreAtWorkTimeless, own_turn}
+use Rattle.law_flow.specs.Flow.{AreAtWorkTimeless, own_turn, fixed}
 use Rattle.law_flow.proofs.Looking.{no}
 use Rattle.law_service.specs.Examples.{tenant_domain, tenant_objects}
 use Rattle.law_service.specs.Service.{AreAdmitted, ByComputing, ByGift, ByStranger, Enters, IsStrange, IsStranger, Own, course, entry_in, returned}
@@ -155,7 +155,7 @@ admitted_between = (
   ),
 )
 
-pub works_between : AreAtWorkTimeless false tenant_domain first (0 ∷ 0 ∷ 1 ∷ 0 ∷ 0 ∷ [])
+pub works_between : AreAtWorkTimeless (fixed false) tenant_domain first (0 ∷ 0 ∷ 1 ∷ 0 ∷ 0 ∷ [])
 works_between = (
   own_works first own_first first_works,
   (own_works second own_second second_works, (none_works third 1 own_none, (none_works beyond 0 own_beyond, (none_works later 0 own_later, tt)))),

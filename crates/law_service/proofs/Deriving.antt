@@ -13,7 +13,8 @@ use Rattle.law_origins.specs.Giving.{Acts}
 use Rattle.law_integrity.specs.Confined.{Of}
 use Rattle.law_integrity.specs.Rights.{GivesFirst, GivesTo, RepliesWith, TakesOfCaller}
 use Rattle.law_integrity.proofs.Confining.{acts_one}
-use Rattle.law_flow.specs.Flow.{AreGivingWithin, AreRevokingWithin, DerivesWithin, HasSameClock, IsAtWork, own_turn}
+use Rattle.law_flow.specs.Flow.{AreGivingWithin, AreRevokingWithin, DerivesWithin, HasSameClock, IsAtWork, own_turn, AreCreatingAlone}
+use Rattle.law_flow.proofs.Creating.{AreMaking}
 use Rattle.law_flow.proofs.Pairs.{first_own, own_derives}
 use Rattle.law_flow.proofs.Taking.{derives_same}
 use Rattle.law_flow.proofs.Turns.{AreTwins, own_is, own_of, own_turned}
@@ -78,9 +79,9 @@ admitted_derives s before S P cpu within (ByNobody nobody timeless) =
 
 -- THE SIDE'S OWN
 
-pub own_derives_too : (k : KernelState) (S P : ℕ → Bool) (cpu ec sc : ℕ) → AreTwins k k S P → own_turn S k cpu ≡ Some (ec, sc) → IsAtWork (HasSameClock k k ec) (AreGivingWithin k k (Of S) ec) (AreRevokingWithin k k (Of S)) k ec →
+pub own_derives_too : (k : KernelState) (S P : ℕ → Bool) (cpu ec sc : ℕ) → AreTwins k k S P → own_turn S k cpu ≡ Some (ec, sc) → IsAtWork (HasSameClock k k ec) (AreGivingWithin k k (Of S) ec) (AreRevokingWithin k k (Of S)) (AreCreatingAlone k k (Of S) (Of P)) k ec →
     DerivesWithin k (Of S) → DerivesWithin (after k cpu) (Of S)
 own_derives_too k S P cpu ec sc t own works within =
-    own_derives (HasSameClock k k ec) k (after k cpu) (Of S) (Of P) t.first.forest ec (deed k ec)
-    (first_own (HasSameClock k k ec) k k (Of S) (Of P) (deed k ec) (deed k ec) (own_of k k S P cpu ec sc t own works))
+    own_derives (HasSameClock k k ec) (AreMaking k k (Of S) (Of P)) k (after k cpu) (Of S) (Of P) t.first.forest ec (deed k ec)
+    (first_own (HasSameClock k k ec) (AreMaking k k (Of S) (Of P)) k k (Of S) (Of P) (deed k ec) (deed k ec) (own_of k k S P cpu ec sc t own works))
     (ap (λ (l : KernelState). l.delegations) (own_turned S k cpu ec sc (own_is S k cpu ec sc own))) within

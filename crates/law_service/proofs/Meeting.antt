@@ -34,7 +34,7 @@ use Rattle.law_integrity.specs.Confined.{Of}
 use Rattle.law_integrity.specs.Rights.{Again, AtCall, IsAsking}
 use Rattle.law_turns.specs.Giving.{gives_no_first}
 use Rattle.law_turns.specs.Revoking.{is_revoking}
-use Rattle.law_flow.specs.Flow.{AreAtWorkTimeless, AreRevokingWithin, GivesWithin, IsAtWork, IsSide, RevokesNothing, own_turn}
+use Rattle.law_flow.specs.Flow.{AreAtWorkTimeless, AreRevokingWithin, GivesWithin, IsAtWork, IsSide, RevokesNothing, own_turn, fixed}
 use Rattle.law_flow.proofs.Deriving.{revoking_itself, within_by}
 use Rattle.law_flow.proofs.Looking.{AllAt, IsCalm, at_all, calm_edge, calm_wait, entry_at, led, looked_up, no}
 use Rattle.law_turns.specs.Links.{caller_at as caller_of, state_at as state_of}
@@ -205,7 +205,7 @@ revoking = revoking_itself first (Of tenant_domain) (reached_sound served_tenant
 -- AT WORK
 
 works_as : (k : KernelState) (s : State) → (context k 10).state ≡ s → gives_no_first s ≡ true → is_giving s ≡ false → is_revoking s ≡ false → ((handler : ℕ) → s ≡ Helping handler → ⊥) → is_thread k 10 ≡ false →
-    IsAtWork ⊥ (RevokesNothing k (Of tenant_domain)) (false ≡ true) k 10
+    IsAtWork ⊥ (RevokesNothing k (Of tenant_domain)) (false ≡ true) (false ≡ true) k 10
 works_as k s is working calm unrevoking never none = record {
   state = ap gives_no_first is ∙ working;
   calls = λ asks. absurd (by_asks asks);
@@ -217,21 +217,21 @@ works_as k s is working calm unrevoking never none = record {
     by_asks (Again handler at) = never handler (sym is ∙ at)
     by_asks (AtCall c) = let both : false ≡ true = sym none ∙ c.thread in cc
 
-pub first_works : IsAtWork ⊥ (RevokesNothing first (Of tenant_domain)) (false ≡ true) first 10
+pub first_works : IsAtWork ⊥ (RevokesNothing first (Of tenant_domain)) (false ≡ true) (false ≡ true) first 10
 first_works = works_as first Fresh fresh_state refl refl refl (λ handler is. cc) no_thread
 
-pub second_works : IsAtWork ⊥ (RevokesNothing second (Of tenant_domain)) (false ≡ true) second 10
+pub second_works : IsAtWork ⊥ (RevokesNothing second (Of tenant_domain)) (false ≡ true) (false ≡ true) second 10
 second_works = works_as second (Exiting 0 0 0) exit_state refl refl refl (λ handler is. cc) still_no_thread
 
-pub own_works : (k : KernelState) → own_turn tenant_domain k 0 ≡ Some (10, 12) → IsAtWork ⊥ (RevokesNothing k (Of tenant_domain)) (false ≡ true) k 10 → (ec sc : ℕ) → own_turn tenant_domain k 0 ≡ Some (ec, sc) → IsAtWork ⊥ (RevokesNothing k (Of tenant_domain)) (false ≡ true) k ec
+pub own_works : (k : KernelState) → own_turn tenant_domain k 0 ≡ Some (10, 12) → IsAtWork ⊥ (RevokesNothing k (Of tenant_domain)) (false ≡ true) (false ≡ true) k 10 → (ec sc : ℕ) → own_turn tenant_domain k 0 ≡ Some (ec, sc) → IsAtWork ⊥ (RevokesNothing k (Of tenant_domain)) (false ≡ true) (false ≡ true) k ec
 own_works k own works ec sc is =
     let same : ◌≡◌ {A = ℕ × ℕ} (10, 12) (ec, sc) = same_Some {A = ℕ × ℕ} (10, 12) (ec, sc) (sym own ∙ is) in
-    subst (IsAtWork ⊥ (RevokesNothing k (Of tenant_domain)) (false ≡ true) k) (ap (λ (p : ℕ × ℕ). p.0) same) works
+    subst (IsAtWork ⊥ (RevokesNothing k (Of tenant_domain)) (false ≡ true) (false ≡ true) k) (ap (λ (p : ℕ × ℕ). p.0) same) works
 
-pub none_works : (k : KernelState) (cpu : ℕ) → own_turn tenant_domain k cpu ≡ None → (ec sc : ℕ) → own_turn tenant_domain k cpu ≡ Some (ec, sc) → IsAtWork ⊥ (RevokesNothing k (Of tenant_domain)) (false ≡ true) k ec
+pub none_works : (k : KernelState) (cpu : ℕ) → own_turn tenant_domain k cpu ≡ None → (ec sc : ℕ) → own_turn tenant_domain k cpu ≡ Some (ec, sc) → IsAtWork ⊥ (RevokesNothing k (Of tenant_domain)) (false ≡ true) (false ≡ true) k ec
 none_works k cpu none ec sc is = absurd (let both : ◌≡◌ {A = Option (ℕ × ℕ)} None (Some (ec, sc)) = sym none ∙ is in cc)
 
-pub works : AreAtWorkTimeless false tenant_domain first (replicate 4 0)
+pub works : AreAtWorkTimeless (fixed false) tenant_domain first (replicate 4 0)
 works = (own_works first own_first first_works, (own_works second own_second second_works, (none_works third 0 own_third, (none_works fourth 0 own_fourth, tt))))
 
 -- ADMITTED

@@ -13,7 +13,7 @@ ghost use Rattle.nova_model.specs.declared.deed.Deed.TheVariants.{Steps};
 ghost use Rattle.law_isolation.specs.Sound.{IsSound};
 ghost use Rattle.law_origins.specs.Giving.{Acts};
 ghost use Rattle.law_integrity.specs.Confined.{Of};
-ghost use Rattle.law_flow.specs.Flow.{AreAlike, AreAlikeAlong, AreAtWorkTimeless, AreDerivedAlike, AreRevokingWithin, DerivesWithin, IsSide, IsTimeless, own_turn};
+ghost use Rattle.law_flow.specs.Flow.{AreAlike, AreAlikeAlong, AreAtWorkTimeless, AreDerivedAlike, AreRevokingWithin, DerivesWithin, IsSide, IsTimeless, own_turn, fixed};
 ghost use Rattle.law_service.specs.Examples.{served_tenants, tenant_domain, tenant_objects};
 ghost use Rattle.law_service.specs.Service.{AreAdmitted, AreServed, Enters, Entry, IsAdmitted, IsEntered, IsServedBy, IsStranger, IsWalled, Own, Return, course, entered, entry_in};
 
@@ -70,7 +70,7 @@ pub fn what_comes_by_itself_leaves_a_side_alone()
 pub fn unwinding_with_entries()
     ensures { (revokes : Bool) (k l : KernelState) (turns others : List ℕ) (S P : ℕ → Bool) → IsSound k → IsSound l
         → IsSide k (Of S) (Of P) → AreAlike k l (Of S) (Of P) → (revokes ≡ true → AreDerivedAlike k l (Of S))
-        → AreServed revokes S P k turns → AreServed revokes S P l others → AreAtWorkTimeless revokes S k turns
+        → AreServed revokes S P k turns → AreServed revokes S P l others → AreAtWorkTimeless (fixed revokes) S k turns
         → course S P k turns ≡ course S P l others
         → AreAlikeAlong k l turns others S P }
 {}
@@ -96,7 +96,7 @@ pub fn noninterference_beside_servers()
         → AreAlike (run (boot a) before) (run (boot b) since) (Of S) (Of P)
         → (revokes ≡ true → AreRevokingWithin (run (boot a) before) (run (boot b) since) (Of S))
         → AreAdmitted S P (run (boot a) before) turns → AreAdmitted S P (run (boot b) since) others
-        → AreAtWorkTimeless revokes S (run (boot a) before) turns → AreAtWorkTimeless revokes S (run (boot b) since) others
+        → AreAtWorkTimeless (fixed revokes) S (run (boot a) before) turns → AreAtWorkTimeless (fixed revokes) S (run (boot b) since) others
         → course S P (run (boot a) before) turns ≡ course S P (run (boot b) since) others
         → AreAlikeAlong (run (boot a) before) (run (boot b) since) turns others S P }
 {}
@@ -109,11 +109,11 @@ pub fn a_served_run_comes_to_the_premises()
     ensures part { IsSide (run (boot served_tenants) (replicate 59 0)) (Of tenant_domain) (Of tenant_objects) }
     ensures revoking { AreRevokingWithin (run (boot served_tenants) (replicate 59 0)) (run (boot served_tenants) (replicate 59 0)) (Of tenant_domain) }
     ensures admitted { AreAdmitted tenant_domain tenant_objects (run (boot served_tenants) (replicate 59 0)) (replicate 4 0) }
-    ensures works { AreAtWorkTimeless false tenant_domain (run (boot served_tenants) (replicate 59 0)) (replicate 4 0) }
+    ensures works { AreAtWorkTimeless (fixed false) tenant_domain (run (boot served_tenants) (replicate 59 0)) (replicate 4 0) }
     ensures happens { course tenant_domain tenant_objects (run (boot served_tenants) (replicate 59 0)) (replicate 4 0)
         ≡ Own 10 12 ∷ Own 10 12 ∷ Enters (record { gift = Some (Return 4 10 no_words); actor = Some 4; payer = None }) ∷ [] }
     ensures between { AreAdmitted tenant_domain tenant_objects (run (boot served_tenants) (replicate 59 0)) (0 ∷ 0 ∷ 1 ∷ 0 ∷ 0 ∷ []) }
-    ensures works_between { AreAtWorkTimeless false tenant_domain (run (boot served_tenants) (replicate 59 0)) (0 ∷ 0 ∷ 1 ∷ 0 ∷ 0 ∷ []) }
+    ensures works_between { AreAtWorkTimeless (fixed false) tenant_domain (run (boot served_tenants) (replicate 59 0)) (0 ∷ 0 ∷ 1 ∷ 0 ∷ 0 ∷ []) }
     ensures same { course tenant_domain tenant_objects (run (boot served_tenants) (replicate 59 0)) (0 ∷ 0 ∷ 1 ∷ 0 ∷ 0 ∷ [])
         ≡ course tenant_domain tenant_objects (run (boot served_tenants) (replicate 59 0)) (replicate 4 0) }
 {}

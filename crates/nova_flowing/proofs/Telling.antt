@@ -27,11 +27,10 @@ line_whole flow side verdict told before first second after one two same three =
     three ∙ ap (λ (v : List ℕ). second ++ v) same ∙ ap (λ (t : List ℕ). t ++ told) two ∙ append_assoc first side told
     ∙ ap (λ (t : List ℕ). t ++ (side ++ told)) one ∙ append_assoc before flow (side ++ told)
 
-pub revoke_whole : (head turn middle ec tail leak before first after : List ℕ) → first ≡ before ++ (head ++ (turn ++ (middle ++ (ec ++ tail)))) → after ≡ first ++ leak
-    → after ≡ before ++ (head ++ (turn ++ (middle ++ (ec ++ (tail ++ leak)))))
-revoke_whole head turn middle ec tail leak before first after one two =
-    two ∙ ap (λ (t : List ℕ). t ++ leak) one ∙ append_assoc before (head ++ (turn ++ (middle ++ (ec ++ tail)))) leak
-    ∙ ap (λ (t : List ℕ). before ++ t) (append_assoc head (turn ++ (middle ++ (ec ++ tail))) leak)
-    ∙ ap (λ (t : List ℕ). before ++ (head ++ t)) (append_assoc turn (middle ++ (ec ++ tail)) leak)
-    ∙ ap (λ (t : List ℕ). before ++ (head ++ (turn ++ t))) (append_assoc middle (ec ++ tail) leak)
-    ∙ ap (λ (t : List ℕ). before ++ (head ++ (turn ++ (middle ++ t)))) (append_assoc ec tail leak)
+pub lapse_whole : (head turn middle ec doing before first after : List ℕ) → first ≡ before ++ (head ++ (turn ++ (middle ++ ec))) → after ≡ first ++ doing
+    → after ≡ before ++ (head ++ (turn ++ (middle ++ (ec ++ doing))))
+lapse_whole head turn middle ec doing before first after one two =
+    two ∙ ap (λ (t : List ℕ). t ++ doing) one ∙ append_assoc before (head ++ (turn ++ (middle ++ ec))) doing
+    ∙ ap (λ (t : List ℕ). before ++ t) (append_assoc head (turn ++ (middle ++ ec)) doing)
+    ∙ ap (λ (t : List ℕ). before ++ (head ++ t)) (append_assoc turn (middle ++ ec) doing)
+    ∙ ap (λ (t : List ℕ). before ++ (head ++ (turn ++ t))) (append_assoc middle ec doing)

@@ -1,5 +1,5 @@
 -- Lines that tell of each side whether the premises hold, and until when it is at work.
-use Rattle.std.specs.Prelude.{ℕ, ◌==◌, ◌&&◌, Bool, not, if◌then◌else◌, List, [], ◌++◌, codes, decimal, flat_map, Option, Some, None}
+use Rattle.std.specs.Prelude.{ℕ, ◌==◌, ◌&&◌, Bool, true, not, if◌then◌else◌, List, [], ◌++◌, codes, decimal, flat_map, nat_lt, Option, Some, None}
 use Rattle.std.specs.List.{enumerate_from, position, range_with_len}
 use Rattle.nova_model.specs.State.{KernelState}
 use Rattle.nova_report.specs.Words.{line_feed}
@@ -69,18 +69,34 @@ abbrev pub leak_text : Option Leak → List ℕ
 leak_text None = line_feed
 leak_text (Some leak) = codes " " ++ (field_word leak.field ++ place_text leak.place)
 
--- until when it is at work
-abbrev pub lapse_text : ℕ → ℕ → Option Leak → LapseKind → List ℕ
-lapse_text turn ec leak Creates = codes " at work until turn " ++ (decimal turn ++ (codes ": ec " ++ (decimal ec ++ (codes " creates" ++ line_feed))))
-lapse_text turn ec leak Gives = codes " at work until turn " ++ (decimal turn ++ (codes ": ec " ++ (decimal ec ++ (codes " gives" ++ line_feed))))
-lapse_text turn ec leak Revokes = codes " at work until turn " ++ (decimal turn ++ (codes ": ec " ++ (decimal ec ++ (codes " revokes" ++ leak_text leak))))
+-- the turn from which on it revokes within: the first in which it isn't at work without revokes, if it is at work then
+abbrev pub is_before : ℕ → Option Lapse → Bool
+is_before turn None = true
+is_before turn (Some l) = nat_lt turn l.turn
 
-abbrev pub work_text : Option Leak → Option Lapse → List ℕ
-work_text leak None = codes " at work to the end" ++ line_feed
-work_text leak (Some l) = lapse_text l.turn l.ec leak l.kind
+abbrev pub revokes_from : Option Lapse → Option Lapse → Option ℕ
+revokes_from lapse None = None
+revokes_from lapse (Some calm) = if is_before calm.turn lapse then Some calm.turn else None
+
+abbrev pub within_text : Option ℕ → List ℕ
+within_text None = line_feed
+within_text (Some turn) = codes ", revokes within from turn " ++ (decimal turn ++ line_feed)
+
+-- until when it is at work
+abbrev pub doing_text : Option Leak → Option ℕ → LapseKind → List ℕ
+doing_text leak from Creates = codes " creates" ++ within_text from
+doing_text leak from Gives = codes " gives" ++ within_text from
+doing_text leak from Revokes = codes " revokes" ++ leak_text leak
+
+abbrev pub end_text : Option Leak → Option ℕ → Option Lapse → List ℕ
+end_text leak from None = codes " at work to the end" ++ within_text from
+end_text leak from (Some l) = codes " at work until turn " ++ (decimal l.turn ++ (codes ": ec " ++ (decimal l.ec ++ doing_text leak from l.kind)))
+
+abbrev pub work_text : Work → List ℕ
+work_text w = end_text w.leak (revokes_from w.lapse w.calm) w.lapse
 
 abbrev pub verdict_text : (ℕ → Bool) → ℕ → Work → Verdict → List ℕ
-verdict_text C cpus work Own = codes " own" ++ (homes_text C cpus ++ work_text work.leak work.lapse)
+verdict_text C cpus work Own = codes " own" ++ (homes_text C cpus ++ work_text work)
 verdict_text C cpus work (Waits ec) = codes " waits ec " ++ (decimal ec ++ line_feed)
 verdict_text C cpus work (Fails premise leak) = codes " " ++ (field_word leak.field ++ place_text leak.place)
 

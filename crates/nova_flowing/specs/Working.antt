@@ -11,7 +11,7 @@ use Rattle.nova_model.specs.declared.context.State.{State}
 use Rattle.nova_model.specs.declared.context.State.TheVariants.{Granting, Replying, Revoking}
 use Rattle.nova_model.specs.declared.delegation.Derivation.{Derivation}
 use Rattle.law_integrity.specs.Confined.{Of}
-use Rattle.law_flow.specs.Flow.{AreAtWork, IsAtWork, RevokesNothing, own_turn}
+use Rattle.law_flow.specs.Flow.{AreAtWork, IsAtWork, RevokesNothing, fixed, own_turn}
 use Rattle.nova_flowing.specs.Deriving.{IsDerivingTold, first_made}
 use Rattle.nova_flowing.specs.declared.lapse.Lapse.{Lapse}
 use Rattle.nova_flowing.specs.declared.lapse.LapseKind.{LapseKind}
@@ -41,7 +41,7 @@ kind_at k ec = option_or (kind_in (context k ec).state) (kind_of (call_of (conte
 
 -- what `AreAtWork` asks of one turn of the side
 abbrev pub IsWorking : Bool → (ℕ → Bool) → KernelState → ℕ → Type 0
-IsWorking revokes S k ec = IsAtWork (Unit {0}) (RevokesNothing k (Of S)) (revokes ≡ true) k ec
+IsWorking revokes S k ec = IsAtWork (Unit {0}) (RevokesNothing k (Of S)) (revokes ≡ true) (false ≡ true) k ec
 
 -- Of a run of which `n` turns were taken before: the first of these turns that is the side's and in which it isn't at work. Whether it may revoke is said first.
 pub record HasLapsed (revokes : Bool) (S : ℕ → Bool) (k : KernelState) (n : ℕ) (turns : List ℕ) (l : Lapse) : Type 0 where
@@ -49,7 +49,7 @@ pub record HasLapsed (revokes : Bool) (S : ℕ → Bool) (k : KernelState) (n : 
   pub cpu : ℕ
   pub left : List ℕ
   pub whole : taken ++ cpu ∷ left ≡ turns
-  pub works : AreAtWork revokes S k taken
+  pub works : AreAtWork (fixed revokes) S k taken
   pub sc : ℕ
   pub acts : own_turn S (run k taken) cpu ≡ Some (l.ec, sc)
   pub lapses : IsWorking revokes S (run k taken) l.ec → ⊥
@@ -58,7 +58,7 @@ pub record HasLapsed (revokes : Bool) (S : ℕ → Bool) (k : KernelState) (n : 
 
 -- it is at work in all of them, or until this one
 abbrev pub IsWorkTold : Bool → (ℕ → Bool) → KernelState → ℕ → List ℕ → Option Lapse → Type 0
-IsWorkTold revokes S k n turns None = AreAtWork revokes S k turns
+IsWorkTold revokes S k n turns None = AreAtWork (fixed revokes) S k turns
 IsWorkTold revokes S k n turns (Some l) = HasLapsed revokes S k n turns l
 
 -- The first of some lapses that is of a side: one that gives does so while one of the side is amid a revoke, and one that revokes counts where it may not.
@@ -78,9 +78,10 @@ may_revoke None = true
 may_revoke (Some leak) = false
 
 abbrev pub work_by : List Derivation → (ℕ → Bool) → List Lapse → Work
-work_by list S lapses = record { lapse = first_lapse (may_revoke (first_made list S)) S lapses; leak = first_made list S }
+work_by list S lapses = record { lapse = first_lapse (may_revoke (first_made list S)) S lapses; calm = first_lapse false S lapses; leak = first_made list S }
 
--- until when it is at work: where it may revoke if the law's condition on what others hold is met at the beginning, and else without revokes
+-- until when it is at work: where it may revoke if the law's condition on what others hold is met at the beginning, and else without revokes; and until when it is without any
 pub record IsWorkEnd (S : ℕ → Bool) (k : KernelState) (n : ℕ) (turns : List ℕ) (w : Work) : Type 0 where
   pub derives : IsDerivingTold k S w.leak
   pub works : IsWorkTold (may_revoke w.leak) S k n turns w.lapse
+  pub calm : IsWorkTold false S k n turns w.calm

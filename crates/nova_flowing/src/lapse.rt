@@ -22,9 +22,11 @@ pub struct Lapse {
     pub kind: LapseKind,
 }
 
-/// Until when a side is at work, if it ends, and which capability of others was made of what it holds, if one was: where none was, it may revoke.
+/// Until when a side is at work, if it ends; until when it is without revokes, `calm`; and which capability of others was made of what it holds, if one
+/// was: where none was, it may revoke.
 #[derive(Clone, Copy)]
 pub struct Work {
     pub lapse: Option<Lapse>,
+    pub calm: Option<Lapse>,
     pub leak: Option<Leak>,
 }

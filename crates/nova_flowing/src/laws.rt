@@ -4,7 +4,7 @@ ghost use Rattle.nova_model.specs.Boot.{Scenario, boot};
 ghost use Rattle.nova_model.specs.Runs.{run};
 ghost use Rattle.nova_model.specs.State.{KernelState};
 ghost use Rattle.law_integrity.specs.Confined.{Of};
-ghost use Rattle.law_flow.specs.Flow.{AreAtWork, DerivesWithin, IsPartitioned};
+ghost use Rattle.law_flow.specs.Flow.{AreAtWork, DerivesWithin, IsPartitioned, fixed};
 ghost use Rattle.law_flow.specs.Processors.{AreAlikeAtHome, IsDivided};
 ghost use Rattle.nova_flowing.specs.Deriving.{IsDerivingTold, first_made};
 ghost use Rattle.nova_flowing.specs.Working.{IsWorkEnd, IsWorkTold, first_lapse, work_by};
@@ -17,7 +17,7 @@ pub fn what_is_own_depends_on_its_own_processors_alone()
     ensures { (revokes : Bool) (scenario : Scenario) (before turns others : List ℕ) (S T P C : ℕ → Bool)
         → IsPartitioned (run (boot scenario) before) (Of S) (Of T) (Of P) → IsDivided (run (boot scenario) before) (Of S) (Of T) (Of P) (Of C)
         → (revokes ≡ true → DerivesWithin (run (boot scenario) before) (Of S))
-        → AreAtWork revokes S (run (boot scenario) before) turns
+        → AreAtWork (fixed revokes) S (run (boot scenario) before) turns
         → filter C turns ≡ filter C others
         → AreAlikeAtHome (run (boot scenario) before) (run (boot scenario) before) turns others S P C }
 {

@@ -2,7 +2,7 @@
 ghost use Rattle.std.specs.Prelude.{◌≡◌, ◌++◌, ◌&&◌, ◌≤◌, ◌^◌, ◌<◌, OnOk, not, codes, flat_map, length, option_map, string_bytes};
 ghost use Rattle.std.specs.List.{enumerate_from, position, range_with_len};
 ghost use Rattle.nova_ties.specs.Ties.{has_label, is_place};
-ghost use Rattle.nova_flowing.specs.Lines.{begins_side, flow_line, flow_lines, flow_text, home_text, homes_text, field_word, lapse_text, leak_text, place_text, verdict_text, work_text};
+ghost use Rattle.nova_flowing.specs.Lines.{begins_side, flow_line, flow_lines, flow_text, home_text, homes_text, doing_text, end_text, field_word, is_before, leak_text, place_text, revokes_from, verdict_text, within_text, work_text};
 ghost use Rattle.nova_flowing.specs.Tests.{is_in};
 ghost use Rattle.nova_flowing.specs.Working.{first_lapse, is_of_side, is_revoke, may_revoke, work_by};
 
@@ -102,37 +102,83 @@ fn write_leak(out: &mut String, leak: Option<Leak>) -> Result<(), AllocError>
     }
 }
 
-fn write_revoke(out: &mut String, turn: u64, ec: u32, leak: Option<Leak>) -> Result<(), AllocError>
-    ensures { OnOk result (string_bytes out.new ≡ string_bytes out.old ++ lapse_text turn ec leak LapseKind.Revokes) }
+/// Whether a turn comes before the one in which a side is no longer at work.
+fn is_before(turn: u64, lapse: Option<Lapse>) -> bool
+    ensures { result ≡ is_before turn lapse }
 {
-    write!(out, " at work until turn {turn}: ec {ec} revokes")?;
+    match lapse {
+        Some(lapse) => turn < lapse.turn,
+        None => true,
+    }
+}
+
+/// From which turn on a side at work revokes, by the turns in which it no longer is and in which it isn't without revokes.
+fn revokes_from(lapse: Option<Lapse>, calm: Option<Lapse>) -> Option<u64>
+    ensures { result ≡ revokes_from lapse calm }
+{
+    let turn = calm?.turn;
+    if is_before(turn, lapse) {
+        Some(turn)
+    } else {
+        None
+    }
+}
+
+/// Something said before, and from which turn on a side revokes, if it does.
+fn write_within(out: &mut String, said: &str, from: Option<u64>) -> Result<(), AllocError>
+    ensures { OnOk result (string_bytes out.new ≡ string_bytes out.old ++ (said.now ++ within_text from)) }
+{
+    match from {
+        Some(turn) => writeln!(out, "{said}, revokes within from turn {turn}"),
+        None => writeln!(out, "{said}"),
+    }
+}
+
+fn write_revoke(out: &mut String, leak: Option<Leak>) -> Result<(), AllocError>
+    ensures { OnOk result (string_bytes out.new ≡ string_bytes out.old ++ (codes " revokes" ++ leak_text leak)) }
+{
+    out.push_str(" revokes")?;
     write_leak(out, leak)
 }
 
-/// Until which turn a side is at work, and what is done then.
-fn write_lapse(
+/// What is done in the turn in which a side is no longer at work.
+fn write_doing(
     out: &mut String,
-    turn: u64,
-    ec: u32,
     leak: Option<Leak>,
+    from: Option<u64>,
     kind: LapseKind,
 ) -> Result<(), AllocError>
-    ensures { OnOk result (string_bytes out.new ≡ string_bytes out.old ++ lapse_text turn ec leak kind) }
+    ensures { OnOk result (string_bytes out.new ≡ string_bytes out.old ++ doing_text leak from kind) }
 {
     match kind {
-        LapseKind::Creates => writeln!(out, " at work until turn {turn}: ec {ec} creates"),
-        LapseKind::Gives => writeln!(out, " at work until turn {turn}: ec {ec} gives"),
-        LapseKind::Revokes => write_revoke(out, turn, ec, leak),
+        LapseKind::Creates => write_within(out, " creates", from),
+        LapseKind::Gives => write_within(out, " gives", from),
+        LapseKind::Revokes => write_revoke(out, leak),
     }
+}
+
+fn write_lapse(
+    out: &mut String,
+    leak: Option<Leak>,
+    from: Option<u64>,
+    lapse: Lapse,
+) -> Result<(), AllocError>
+    ensures { OnOk result (string_bytes out.new ≡ string_bytes out.old ++ end_text leak from (Some lapse)) }
+{
+    let turn = lapse.turn;
+    let ec = lapse.ec;
+    write!(out, " at work until turn {turn}: ec {ec}")?;
+    write_doing(out, leak, from, lapse.kind)
 }
 
 /// Until when a side is at work.
 fn write_work(out: &mut String, work: Work) -> Result<(), AllocError>
-    ensures { OnOk result (string_bytes out.new ≡ string_bytes out.old ++ work_text work.leak work.lapse) }
+    ensures { OnOk result (string_bytes out.new ≡ string_bytes out.old ++ work_text work) }
 {
+    let from = revokes_from(work.lapse, work.calm);
     match work.lapse {
-        Some(lapse) => write_lapse(out, lapse.turn, lapse.ec, work.leak, lapse.kind),
-        None => out.push_str(" at work to the end\n"),
+        Some(lapse) => write_lapse(out, work.leak, from, lapse),
+        None => write_within(out, " at work to the end", from),
     }
 }
 
@@ -201,6 +247,7 @@ fn work_of(list: &[Derivation], own: &[bool], lapses: &[Lapse]) -> Work
     let leak = first_made(list, own);
     Work {
         lapse: first_lapse(may_revoke(leak), own, lapses),
+        calm: first_lapse(false, own, lapses),
         leak,
     }
 }
@@ -276,7 +323,7 @@ fn write_flow_at(
 
 /// Writes of each side of `labels`, the labels of the domains of `kernel` by number, whether the premises of noninterference on divided processors hold
 /// in its present state, of which `list` has all derivations: `own` with the side's processors, and the first of `lapses` by which it is no longer at work, where a revoke is one only if others hold what was made of what
-/// the side holds, of which the first is named; or the first that fails, by the field of the law's conditions, with the capability, object, execution context or source of which it does; or `waits` with an execution context of no side that is blocked, where only a deadline
+/// the side holds, of which the first is named, and from which turn on the side revokes without being one; or the first that fails, by the field of the law's conditions, with the capability, object, execution context or source of which it does; or `waits` with an execution context of no side that is blocked, where only a deadline
 /// of such may be against it. The only refusal is of memory.
 pub fn write_flows(
     alloc: Global,

@@ -1,6 +1,6 @@
 -- The cause of each tie is what the state says.
-use Rattle.std.proofs.Common.{◌≡◌, ◌++◌, ℕ, List, [], refl, sym, ap, ◌∙◌, subst}
-use Rattle.std.specs.Prelude.{◌==◌, ◌&&◌, ◌||◌, Bool, true, false, not, if◌then◌else◌, flat_map, Contains, slice_get, Option, Some, None, option_to_list}
+use Rattle.std.proofs.Common.{◌≡◌, ◌++◌, ℕ, [], refl, sym, ◌∙◌, subst}
+use Rattle.std.specs.Prelude.{◌==◌, ◌&&◌, Bool, true, false, if◌then◌else◌, flat_map, Contains, slice_get, Option, Some, None, option_to_list}
 use Rattle.std.specs.List.{AllByRecursion, enumerate_from}
 use Rattle.std.proofs.lemmas.Bool.{and_parts, eqb-true}
 use Rattle.std.proofs.lemmas.Option.{same_Some}
@@ -18,8 +18,7 @@ use Rattle.nova_model.specs.declared.context.Mark.{Mark}
 use Rattle.nova_model.specs.declared.context.State.{State}
 use Rattle.nova_model.specs.declared.context.State.TheVariants.{Blocked, Granting}
 use Rattle.nova_model.specs.declared.delegation.Derivation.{Derivation}
-use Rattle.law_forest.proofs.Members.{IsIn, all_at, contains_from_in, in_from_contains}
-use Rattle.nova_ties.specs.declared.tie.Cause.{Cause}
+use Rattle.law_forest.proofs.Members.{all_at, contains_from_in, in_from_contains}
 use Rattle.nova_ties.specs.declared.tie.Cause.TheVariants as cause
 use Rattle.nova_ties.specs.declared.tie.Tie.{Tie}
 use Rattle.law_sides.specs.Tied.{beside_at, beside_in, gives_of, is_blocked_at, lead_of, leads, meets, overlaps, overlaps_all, overlaps_by, passes, queue_of, served, serves_by, serves_of, shares, shares_all, shares_at, shares_by, strict, takes_by, takes_of, ties, ties_at, ties_by, ties_in, ties_of_kind, waits_all, waits_at, waits_in, weak}

@@ -1,5 +1,5 @@
 -- What the cause of a tie says of the state, a row a cause: which capability, execution context or pair of them ties the two domains, and whether strictly.
-use Rattle.std.specs.Prelude.{◌≡◌, ◌||◌, ℕ, Bool, true, false, Contains, slice_get, Option, Some, None}
+use Rattle.std.specs.Prelude.{◌≡◌, ◌||◌, ℕ, Bool, true, false, Contains, slice_get, Some, None}
 use Rattle.nova_objects.specs.declared.object.EcKind.{EcKind}
 use Rattle.nova_objects.specs.declared.object.Object.{Object}
 use Rattle.nova_objects.specs.declared.object.Object.TheVariants.{Pd, Ec, Sc, Pt, Sm}
@@ -27,7 +27,7 @@ pub record HasCap (k : KernelState) (of : Kind) (domain cap : ℕ) : Type 0 wher
   pub pd : derivation.pd ≡ domain
   pub number : derivation.id ≡ cap
 
--- the execution context is of the domain, and is so
+-- the object of this number is an execution context of the domain, and this is its state
 pub record HasContext (k : KernelState) (pd n : ℕ) : Type 0 where
   pub cpu : ℕ
   pub kind : EcKind

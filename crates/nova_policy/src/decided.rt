@@ -11,22 +11,19 @@ ghost use Rattle.nova_watching.specs.Worked.{AreLapses};
 use crate::exit::Exit;
 use crate::flows::flows_of;
 use crate::request::Span;
-use crate::running::{run_along, run_to};
-use nova_boot::boot;
+use crate::running::{boot_for, run_along, run_to};
+use nova_finished::Finished;
 use nova_flowing::Lapse;
 use nova_judging::{Told, first_stranger};
+use nova_kernel::{Kernel, let_go};
 use nova_naming::Policy;
 use nova_order::Order;
-use nova_run::{Finished, Kernel};
 use nova_scenario::Scenario;
 use nova_watching::{lapses_of, told_of, watch};
 use std::alloc::{AllocError, Global};
 
 /// The last turn of a run.
 const LAST_TURN: u32 = 10_000_000;
-
-/// What is let go here is dropped apart from all else.
-fn let_go<T: Drop>(_value: T) {}
 
 /// Whether each number that a policy names is of a domain, or of a semaphore, as it is to be.
 fn check_names(policy: &Option<Policy>, kernel: &Kernel) -> Result<(), Exit>
@@ -61,9 +58,7 @@ fn told_before(
     if order.sum() <= from {
         return Ok(None);
     }
-    nova_order::laws::bounds_are_of_turns();
-    let _blocks = order.blocks();
-    let mut kernel = boot(alloc, scenario, order.sum())?;
+    let mut kernel = boot_for(alloc, scenario, order)?;
     let found = watch(alloc, &mut kernel, order, policy, from);
     let_go(kernel);
     found
@@ -132,9 +127,7 @@ fn lapses_after(
     requires few { length (turns order.now.blocks) ≤ 10000000 }
     ensures { IfOk result (λ lapses. AreLapses from (boot (scenario_of scenario.now)) (turns order.now.blocks) lapses.items) }
 {
-    nova_order::laws::bounds_are_of_turns();
-    let _blocks = order.blocks();
-    let mut kernel = boot(alloc, scenario, order.sum())?;
+    let mut kernel = boot_for(alloc, scenario, order)?;
     let found = lapses_of(alloc, &mut kernel, order, from);
     let_go(kernel);
     found
@@ -175,7 +168,7 @@ fn told_part(
     let lapses = lapses_after(alloc, scenario, &run.order, first)?;
     let part = run_part(alloc, scenario, &run.order, from)?;
     let told = told_flowing(alloc, scenario, &part, policy, first, &lapses);
-    let_go(part);
+    part.let_go();
     told
 }
 
@@ -216,6 +209,6 @@ pub fn decide(
 {
     let run = run_to(alloc, scenario, order, span.until)?;
     let told = told_with(alloc, scenario, &run, policy, span.from, flow);
-    let_go(run);
+    run.let_go();
     told
 }

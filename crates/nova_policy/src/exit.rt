@@ -2,12 +2,12 @@ ghost use Rattle.std.specs.Prelude.{◌≡◌};
 ghost use Rattle.nova_policy.specs.Exit.{of_policy_fetch, status_of};
 
 use nova_command::CommandFault;
+use nova_finished::RunFault;
 use nova_io::FetchFault;
 use nova_judging::{Answer, Expected};
 use nova_loading::{OrderUnread, ScenarioUnread};
 use nova_naming::{PolicyFault, PolicyWhy};
 use nova_order::OrderFault;
-use nova_run::RunFault;
 use nova_scenario::Why;
 use std::alloc::AllocError;
 use thiserror::Error;

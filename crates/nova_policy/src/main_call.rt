@@ -68,7 +68,7 @@ fn serve<D: Depot, O: Sink>(alloc: Global, request: &Request, depot: &mut D, out
 /// each processor, and the ties of sides to other domains. `--flow` stands in place of `--at`: what is told is of the state after its TURN, and
 /// after it of each side whether the premises of noninterference on divided processors hold of it there, or which one fails first; and of a side of
 /// which they hold, until which turn of the run it is at work, up to that of `--until`, or to 1,000,000: it may revoke where no other domain holds what
-/// was made of what it holds, of which else the first is named.
+/// was made of what it holds, of which else the first is named; and in which turn it revokes first, if it may.
 ///
 /// Other answers, each with its cause: Usage exactly where the words ask for nothing. ReadFault only where the count of failed fetches of one of
 /// the names rose. TooLong where more bytes came than may; Scenario, Order and Policy where the bytes that came are none, with the first line

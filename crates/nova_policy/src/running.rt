@@ -1,4 +1,5 @@
-ghost use Rattle.std.specs.Prelude.{◌≡◌, ◌≤◌, ◌++◌, ◌-◌, min, replicate, None, Some, IfOk, IfErr, IfSome, IsTrue, OnOk, take};
+ghost use Rattle.std.specs.Prelude.{◌≡◌, ◌<◌, ◌≤◌, ◌+◌, ◌++◌, ◌-◌, ◌^◌, length, min, replicate, None, Some, IfOk, IfErr, IfSome, IsTrue, OnOk, take};
+ghost use Rattle.std.specs.List.{AllByRecursion};
 ghost use Rattle.nova_boot.specs.Boot.{scenario_of};
 ghost use Rattle.nova_model.specs.Boot.{boot};
 ghost use Rattle.nova_order.specs.Blocks.{IsOrder, is_within, total, turns};
@@ -8,8 +9,10 @@ ghost use Rattle.nova_policy.specs.Runs.{HasRun, HasTaken, IsNotRun, IsStopped};
 
 use crate::exit::Exit;
 use nova_boot::boot;
+use nova_finished::Finished;
+use nova_kernel::Kernel;
 use nova_order::{Block, Order};
-use nova_run::{Finished, round_robin, run_order};
+use nova_rounds::{round_robin, run_order};
 use nova_scenario::Scenario;
 use std::alloc::{AllocError, Global};
 
@@ -36,6 +39,22 @@ fn first_turns(alloc: Global, order: &Order, most: u64) -> Result<Order, AllocEr
         add_within(&mut first, *block, most)?;
     }
     Ok(first)
+}
+
+/// Boots `scenario`, with room for the turns of `order`, which are of processors that are there.
+pub fn boot_for(alloc: Global, scenario: &Scenario, order: &Order) -> Result<Kernel, AllocError>
+    requires sound { IsSound scenario.now }
+    requires there { AllByRecursion (λ cpu. cpu < (boot (scenario_of scenario.now)).cpus) (turns order.now.blocks) }
+    requires few { length (turns order.now.blocks) ≤ 10000000 }
+    ensures state { IfOk result (λ kernel. kernel.state ≡ boot (scenario_of scenario.now)) }
+    ensures within { IfOk result (λ kernel. IsTrue (is_within kernel.state.cpus 10000000 order.now.blocks)) }
+    ensures room { IfOk result (λ kernel. total order.now.blocks ≤ kernel.room) }
+    ensures turns { IfOk result (λ kernel. kernel.state.turns + total order.now.blocks ≤ 2 ^ 31) }
+{
+    nova_order::laws::bounds_are_of_turns();
+    let _blocks = order.blocks();
+    let kernel = boot(alloc, scenario, order.sum())?;
+    Ok(kernel)
 }
 
 /// Boots `scenario`, and runs it by round robin for at most `at` turns.

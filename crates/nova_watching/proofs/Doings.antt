@@ -1,6 +1,6 @@
 -- What states and calls are of: who creates, gives and revokes.
 use Rattle.std.proofs.Common.{◌≡◌, refl}
-use Rattle.std.specs.Prelude.{true, Option, Some, None, Result, Ok}
+use Rattle.std.specs.Prelude.{false, true, Option, Some, None, Result, Ok}
 use Rattle.nova_calls.specs.declared.call.Call.{Call}
 use Rattle.nova_calls.specs.declared.call.Call.TheVariants.{CreatePd, CreateEc, CreateSc, CreatePt, CreateSm, Revoke, SmCtrl}
 use Rattle.nova_calls.specs.declared.call.SmAction.TheVariants.{DownWithin}
@@ -66,7 +66,7 @@ first_state (Granting (Some new)) is calm = absurd (cc)
 first_state (Granting None) is calm = absurd (cc)
 first_state other is calm = absurd (cc)
 
-pub call_works : (revoking : Type 0) (r : Result Call Status) → kind_of r ≡ None → IsCallAtWork (Unit {0}) revoking r
+pub call_works : (revoking : Type 0) (r : Result Call Status) → kind_of r ≡ None → IsCallAtWork (Unit {0}) revoking (false ≡ true) r
 call_works revoking (Ok (CreatePd target pd first)) is = absurd (cc)
 call_works revoking (Ok (CreateEc target pd cpu kind sp event)) is = absurd (cc)
 call_works revoking (Ok (CreateSc target pd whose quantum priority)) is = absurd (cc)
@@ -76,16 +76,20 @@ call_works revoking (Ok (Revoke range own)) is = absurd (cc)
 call_works revoking (Ok (SmCtrl sm (DownWithin ticks))) is = tt
 call_works revoking other is = tt
 
-pub call_creates : (revoking : Type 0) (r : Result Call Status) → kind_of r ≡ Some Creates → IsCallAtWork (Unit {0}) revoking r → ⊥
-call_creates revoking (Ok (CreatePd target pd first)) is works = works
-call_creates revoking (Ok (CreateEc target pd cpu its sp event)) is works = works
-call_creates revoking (Ok (CreateSc target pd whose quantum priority)) is works = works
-call_creates revoking (Ok (CreatePt target pd handler mtd ip)) is works = works
-call_creates revoking (Ok (CreateSm target pd count)) is works = works
+never : false ≡ true → ⊥
+never is = absurd (cc)
+
+pub call_creates : (revoking : Type 0) (r : Result Call Status) → kind_of r ≡ Some Creates → IsCallAtWork (Unit {0}) revoking (false ≡ true) r → ⊥
+call_creates revoking (Ok (CreatePd target pd None)) is works = never works
+call_creates revoking (Ok (CreatePd target pd (Some first))) is works = works
+call_creates revoking (Ok (CreateEc target pd cpu its sp event)) is works = never works
+call_creates revoking (Ok (CreateSc target pd whose quantum priority)) is works = never works
+call_creates revoking (Ok (CreatePt target pd handler mtd ip)) is works = never works
+call_creates revoking (Ok (CreateSm target pd count)) is works = never works
 call_creates revoking (Ok (Revoke range own)) is works = absurd (cc)
 call_creates revoking other is works = absurd (cc)
 
-pub call_revokes : (revoking : Type 0) (r : Result Call Status) → kind_of r ≡ Some Revokes → IsCallAtWork (Unit {0}) revoking r → revoking
+pub call_revokes : (revoking : Type 0) (r : Result Call Status) → kind_of r ≡ Some Revokes → IsCallAtWork (Unit {0}) revoking (false ≡ true) r → revoking
 call_revokes revoking (Ok (Revoke range own)) is works = works
 call_revokes revoking (Ok (CreatePd target pd first)) is works = absurd (cc)
 call_revokes revoking (Ok (CreateEc target pd cpu its sp event)) is works = absurd (cc)
@@ -94,7 +98,7 @@ call_revokes revoking (Ok (CreatePt target pd handler mtd ip)) is works = absurd
 call_revokes revoking (Ok (CreateSm target pd count)) is works = absurd (cc)
 call_revokes revoking other is works = absurd (cc)
 
-pub revokes_call : (revoking : Type 0) (r : Result Call Status) → kind_of r ≡ Some Revokes → revoking → IsCallAtWork (Unit {0}) revoking r
+pub revokes_call : (revoking : Type 0) (r : Result Call Status) → kind_of r ≡ Some Revokes → revoking → IsCallAtWork (Unit {0}) revoking (false ≡ true) r
 revokes_call revoking (Ok (Revoke range own)) is may = may
 revokes_call revoking (Ok (CreatePd target pd first)) is may = absurd (cc)
 revokes_call revoking (Ok (CreateEc target pd cpu its sp event)) is may = absurd (cc)

@@ -13,7 +13,7 @@ use Rattle.nova_order.specs.declared.block.Block.{Block}
 use Rattle.nova_order.proofs.BlockLemmas.{length_turns, total_push, turns_push}
 use Rattle.nova_order.proofs.PlaceLemmas.{more_at}
 use Rattle.law_turns.specs.Tables.{HasTables}
-use Rattle.law_flow.specs.Flow.{AreAtWork, own_turn}
+use Rattle.law_flow.specs.Flow.{AreAtWork, fixed, own_turn}
 use Rattle.nova_flowing.specs.Working.{HasLapsed, IsWorkTold, IsWorking, first_lapse, is_of_side, is_revoke}
 use Rattle.nova_flowing.specs.declared.lapse.Lapse.{Lapse}
 use Rattle.nova_watching.specs.Worked.{Adds, AreLapses, Continues, IsTurnTold, is_like, of_side, turn_lapse}
@@ -83,7 +83,7 @@ module _ (revokes : Bool) (S : ℕ → Bool) where
 
   -- ALONG TURNS
 
-  work_more : (k : KernelState) (xs : List ℕ) (cpu : ℕ) → AreAtWork revokes S k xs → ((ec sc : ℕ) → own_turn S (run k xs) cpu ≡ Some (ec, sc) → IsWorking revokes S (run k xs) ec) → AreAtWork revokes S k (xs ++ cpu ∷ [])
+  work_more : (k : KernelState) (xs : List ℕ) (cpu : ℕ) → AreAtWork (fixed revokes) S k xs → ((ec sc : ℕ) → own_turn S (run k xs) cpu ≡ Some (ec, sc) → IsWorking revokes S (run k xs) ec) → AreAtWork (fixed revokes) S k (xs ++ cpu ∷ [])
   work_more k [] cpu works last = (last, tt)
   work_more k (x ∷ xs) cpu works last = (works.0, work_more (after k x) xs cpu works.1 last)
 

@@ -55,7 +55,7 @@ module _ (revokes : Bool) (S : ℕ → Bool) (k : KernelState) (cpu n : ℕ) whe
     works_if works ec sc own = let its = mine_by ec sc own in subst (IsWorking revokes S k) its.1 (works its.0)
 
     -- it is at work
-    calm_works : kind_in (context k c.actor).state ≡ None → (IsAsking k c.actor → IsCallAtWork (Unit {0}) (revokes ≡ true) (call_of (context k c.actor).regs)) → IsWorking revokes S k c.actor
+    calm_works : kind_in (context k c.actor).state ≡ None → (IsAsking k c.actor → IsCallAtWork (Unit {0}) (revokes ≡ true) (false ≡ true) (call_of (context k c.actor).regs)) → IsWorking revokes S k c.actor
     calm_works none calls = record {
       state = state_calm (context k c.actor).state none;
       calls = calls;
@@ -137,7 +137,7 @@ module _ (revokes : Bool) (S : ℕ → Bool) (k : KernelState) (cpu n : ℕ) whe
         (option_or (gift_in revokes S k n here (kind_in (context k c.actor).state)) (of_side revokes S (lapse_by n here (lapse_kind here (sign_of (deed k c.actor)).0))))
     told_with tables = by_state (kind_in (context k c.actor).state) refl
       where
-        calls_none : kind_of (call_of (context k c.actor).regs) ≡ None → IsAsking k c.actor → IsCallAtWork (Unit {0}) (revokes ≡ true) (call_of (context k c.actor).regs)
+        calls_none : kind_of (call_of (context k c.actor).regs) ≡ None → IsAsking k c.actor → IsCallAtWork (Unit {0}) (revokes ≡ true) (false ≡ true) (call_of (context k c.actor).regs)
         calls_none two asking = call_works (revokes ≡ true) (call_of (context k c.actor).regs) two
 
         by_kind : kind_in (context k c.actor).state ≡ None → (kind : LapseKind) → kind_of (call_of (context k c.actor).regs) ≡ Some kind → asks_in (context k c.actor).state (sign_of (deed k c.actor)).0 ≡ true →

@@ -1,0 +1,120 @@
+-- A turn of others that makes no object leaves a side's part alone, with the numbers that no object has yet.
+use Rattle.std.proofs.Common.{◌≡◌, ℕ, ◌+◌, List, [], ◌∷◌, ◌++◌, length, ap, ap₂, ◌∙◌, subst, arith}
+use Rattle.std.specs.Prelude.{Bool, true, is_some, slice_get, option_map, option_and_then, Option, Some, None}
+use Rattle.nova_objects.specs.declared.object.Object.{Object}
+use Rattle.nova_objects.specs.declared.object.Object.TheVariants.{Pd}
+use Rattle.nova_model.specs.Boot.{Scenario, boot}
+use Rattle.nova_model.specs.Creation.{object_of}
+use Rattle.nova_model.specs.Runs.{after, run}
+use Rattle.nova_model.specs.Edges.{is_giving}
+use Rattle.nova_model.specs.State.{KernelState, context, pd_of}
+use Rattle.nova_model.specs.declared.new_object.NewObject.{NewObject}
+use Rattle.law_forest.specs.Effects.{joined}
+use Rattle.law_turns.proofs.Setting.{joined_length}
+use Rattle.law_turns.specs.Giving.{gives_no_first}
+use Rattle.law_turns.proofs.Serving.{actor_of}
+use Rattle.law_isolation.specs.Sound.{IsSound}
+use Rattle.law_isolation.proofs.Runs.{reached_sound, turn_sound}
+use Rattle.law_origins.proofs.Actors.{is_able}
+use Rattle.law_origins.proofs.Lists.{run_append}
+use Rattle.law_integrity.specs.Confined.{Of}
+use Rattle.law_integrity.proofs.Homes.{AreHomed, home_there, reached_homed}
+use Rattle.law_flow.specs.Flow.{AreAtWorkTimeless, AreLeftAlone, DerivesWithin, IsGivingWithin, IsLeftAlone, IsPartitioned, IsTimeless, RevokesNothing, Work, domains, existing, if_own, own_turn}
+use Rattle.law_flow.proofs.Existing.{AreLevel, in_domains, none_domains, of_domains, whole_alike, whole_side}
+use Rattle.law_flow.proofs.Guarding.{others_leave_alone}
+use Rattle.law_flow.proofs.Numbers.{grows}
+use Rattle.law_flow.proofs.Turns.{IsOwnTurn, own_acts, own_is}
+use Rattle.law_flow.proofs.Within.{within_partition}
+
+-- a turn after which as many objects are there makes none
+pub unmade : (k : KernelState) (cpu : ℕ) → length (after k cpu).objects ≡ length k.objects → (after k cpu).objects ≡ k.objects
+unmade k cpu same = by_made (grows k cpu).made (grows k cpu).objects
+  where
+    by_made : (o : Option NewObject) → (after k cpu).objects ≡ joined k.objects (option_map object_of o) → (after k cpu).objects ≡ k.objects
+    by_made None is = is
+    by_made (Some made) is =
+        let more : length (after k cpu).objects ≡ length k.objects + 1 = ap (λ (os : List Object). length os) is ∙ joined_length k.objects (object_of made) in absurd (omega (arith, same, more))
+
+pub left_whole : (s : Scenario) (before : List ℕ) (S P : ℕ → Bool) (T : ℕ → Type 0) (cpu : ℕ) →
+    IsPartitioned (run (boot s) before) (Of (domains (run (boot s) before) S)) T (Of (existing (run (boot s) before) P)) → IsTimeless (run (boot s) before) (Of (existing (run (boot s) before) P)) →
+    own_turn S (run (boot s) before) cpu ≡ None → length (after (run (boot s) before) cpu).objects ≡ length (run (boot s) before).objects → IsLeftAlone (run (boot s) before) (Of S) (Of P) cpu
+left_whole s before S P T cpu c timeless none same = record { same = whole_alike k (after k cpu) S P level left.same; side = whole_side k (after k cpu) S P level left.side }
+  where
+    k : KernelState
+    k = run (boot s) before
+
+    next : run (boot s) (before ++ cpu ∷ []) ≡ after (run (boot s) before) cpu
+    next = run_append (boot s) before (cpu ∷ [])
+
+    level : AreLevel (run (boot s) before) (after (run (boot s) before) cpu)
+    level = record {
+      first = reached_sound s before;
+      second = turn_sound k cpu (reached_sound s before);
+      homed = reached_homed s before;
+      homed_too = subst AreHomed next (reached_homed s (before ++ cpu ∷ []));
+      objects = unmade k cpu same;
+    }
+
+    left : IsLeftAlone (run (boot s) before) (Of (domains (run (boot s) before) S)) (Of (existing (run (boot s) before) P)) cpu
+    left = others_leave_alone s before (domains k S) (existing k P) T cpu c timeless (none_domains k S cpu none)
+
+-- ONE OF THE SIDE'S OWN
+
+-- it is one of the domains that are there
+pub own_domains : (S : ℕ → Bool) (k : KernelState) (cpu ec sc : ℕ) → IsSound k → own_turn S k cpu ≡ Some (ec, sc) → own_turn (domains k S) k cpu ≡ Some (ec, sc)
+own_domains S k cpu ec sc sound own =
+    ap (option_and_then (λ c. if_own (domains k S (pd_of k c.actor)) c)) its.next ∙ ap (λ (t : Bool). if_own t its.candidate) mine
+    ∙ ap₂ (λ (n m : ℕ). Some (n, m)) its.actor its.payer
+  where
+    its : IsOwnTurn S k cpu ec sc
+    its = own_is S k cpu ec sc own
+
+    there : slice_get k.objects (pd_of k ec) ≡ Some Pd
+    there = home_there k ec sound.kept.tables (ap is_some (actor_of k.contexts ec (is_able k cpu ec (own_acts S k cpu ec sc its))).there)
+
+    mine : domains k S (pd_of k its.candidate.actor) ≡ true
+    mine = ap (λ (n : ℕ). domains k S (pd_of k n)) its.actor ∙ in_domains k S (pd_of k ec) its.of there
+
+gives_whole : (s : Scenario) (before : List ℕ) (S P : ℕ → Bool) (T : ℕ → Type 0) (cpu ec sc : ℕ) →
+    IsPartitioned (run (boot s) before) (Of (domains (run (boot s) before) S)) T (Of (existing (run (boot s) before) P)) → own_turn S (run (boot s) before) cpu ≡ Some (ec, sc) →
+    is_giving (context (run (boot s) before) ec).state ≡ true → gives_no_first (context (run (boot s) before) ec).state ≡ true → RevokesNothing (run (boot s) before) (Of S) →
+    IsGivingWithin (run (boot s) before) (Of S) ec
+gives_whole s before S P T cpu ec sc c own gives works none = record {
+  caller = λ n mark is. of_domains k S (pd_of k n) (within.caller n mark is);
+  unrevoked = record {
+    own = none;
+    lines = λ n range its d a state there mine above same. within.unrevoked.lines n range its d a state there (in_domains k S d.pd mine ((reached_homed s before).holders d there)) above same;
+  };
+}
+  where
+    k : KernelState
+    k = run (boot s) before
+
+    within : IsGivingWithin (run (boot s) before) (Of (domains (run (boot s) before) S)) ec
+    within =
+        within_partition (domains k S) (existing k P) T k cpu ec sc (reached_sound s before) c (own_domains S k cpu ec sc (reached_sound s before) own) gives works
+        (λ n range its state mine. none n range its state (of_domains k S (pd_of k n) mine))
+
+-- ALONG TURNS
+
+-- what is asked before each
+pub record IsKeptApart (revokes : Bool) (k : KernelState) (S T P : ℕ → Bool) (cpu : ℕ) : Type 0 where
+  pub part : IsPartitioned k (Of (domains k S)) (Of T) (Of (existing k P))
+  pub timeless : IsTimeless k (Of (existing k P))
+  pub derives : revokes ≡ true → DerivesWithin k (Of S)
+  pub others : own_turn S k cpu ≡ None → length (after k cpu).objects ≡ length k.objects
+
+abbrev pub AreKeptApart : Bool → (ℕ → Bool) → (ℕ → Bool) → (ℕ → Bool) → KernelState → List ℕ → Type 0
+AreKeptApart revokes S T P k [] = Unit {0}
+AreKeptApart revokes S T P k (cpu ∷ turns) = IsKeptApart revokes k S T P cpu × AreKeptApart revokes S T P (after k cpu) turns
+
+pub apart_along : (work : Work) (s : Scenario) (before turns : List ℕ) (S T P : ℕ → Bool) → AreKeptApart work.revokes S T P (run (boot s) before) turns → AreAtWorkTimeless work S (run (boot s) before) turns →
+    AreLeftAlone work.revokes S P (run (boot s) before) turns
+apart_along work s before [] S T P apart works = tt
+apart_along work s before (cpu ∷ turns) S T P apart works = (
+  λ none. left_whole s before S P (Of T) cpu apart.0.part apart.0.timeless none (apart.0.others none),
+  λ ec sc own gives. gives_whole s before S P (Of T) cpu ec sc apart.0.part own gives (works.0 ec sc own).state ((works.0 ec sc own).gives gives),
+  apart.0.derives,
+  subst (λ (l : KernelState). AreKeptApart work.revokes S T P l turns → AreAtWorkTimeless work S l turns → AreLeftAlone work.revokes S P l turns) (run_append (boot s) before (cpu ∷ []))
+      (apart_along work s (before ++ cpu ∷ []) turns S T P) apart.1 works.1,
+)
