@@ -8,7 +8,8 @@ proves each crate that CRATE (nova, if none is named) stands on, and then makes 
 crate that is proved, how many there are, how long that took, and how long the rest may take. What was built of the same sources by the same
 kit is used again, by checksums: the times of files mean nothing. With --plan nothing is built: it says what would be, how long that takes, and
 the room on disk. --built says by its status, 0 or 1, whether CRATE is built of the sources that are here. --above says what a change of each
-crate proves again: how many crates, itself among them, and the minutes of their proofs by one job. Nothing is built.
+crate proves again: how many crates, itself among them, and the minutes of their proofs by one job; of a single one also which. Nothing is
+built.
 
 Crates are proved side by side, each as soon as those below it are proved. Those with nearly the longest way to the top go before the others, by
 as many jobs as pay. How long it takes yet is reckoned from costs.txt, which has each crate's seconds by one job, and from how fast this machine was so
@@ -26,6 +27,7 @@ import shutil
 import signal
 import sys
 import tempfile
+import textwrap
 import time
 from collections.abc import Iterator
 from pathlib import Path
@@ -158,7 +160,7 @@ def needs(builder: Builder) -> str:
 
 
 def say_above(changed: list[str]) -> int:
-    """Writes what a change of each of these crates proves again. The answer is a status: 2 where a crate isn't there, or none is named."""
+    """Writes how much a change of each of these crates proves again, of a single one also which. The answer is a status: 2 where a crate isn't there, or none is named."""
     named, seconds = crates(), costs()
     unknown = [crate for crate in changed if crate not in named]
     if unknown or not changed:
@@ -168,6 +170,8 @@ def say_above(changed: list[str]) -> int:
         again = above(crate, named)
         minutes = sum(seconds.get(other, 0) for other in again) / 60
         print(f"{crate:<13} {len(again):>2} crates, {minutes:>2.0f} minutes")
+    if len(changed) == 1:
+        print(textwrap.fill(" ".join(again), 120, initial_indent="  ", subsequent_indent="  "))
     return 0
 
 

@@ -234,6 +234,7 @@ class Builds(unittest.TestCase):
             made = Repository(folder)
             told = made.build("--above", "long", "low")
             self.assertEqual((told.returncode, told.stdout.splitlines()), (0, ["long           2 crates,  2 minutes", "low            4 crates,  3 minutes"]))
+            self.assertEqual(made.build("--above", "low").stdout.splitlines(), ["low            4 crates,  3 minutes", "  low long short nova"])
             self.assertEqual([made.build("--above", *words).returncode for words in ([], ["nosuch"], ["--plan", "low"])], [2, 2, 2])
             self.assertEqual(made.asked(), [])
 

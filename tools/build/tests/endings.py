@@ -2,6 +2,7 @@
 
 from __future__ import annotations
 
+import contextlib
 import os
 import signal
 import subprocess
@@ -60,7 +61,7 @@ def make(folder: Path) -> None:
     (folder / "empty").touch()
     (folder / "noise").write_bytes(bytes(range(256)) * 20)
     os.mkfifo(folder / "waits")
-    for name, does in (("ends", "exit 9"), ("noisy", "printf '\\377\\001 at of\\nthe (\\n'"), ("sleeps", "exec sleep 20")):
+    for name, does in (("ends", "exit 9"), ("noisy", "printf '\\377\\001 at of\\nthe (\\n'"), ("sleeps", "exec sleep 60")):
         (folder / name).write_text(f"#!/bin/sh\n{does}\n")
         (folder / name).chmod(0o755)
 
@@ -76,6 +77,29 @@ def placed(folder: Path, words: str) -> list[str]:
 def is_there(words: str) -> bool:
     """Whether a tool is here. A release hasn't all of them."""
     return (TOP / "tools" / words.split()[0]).exists()
+
+
+def processes() -> dict[int, tuple[str, int]]:
+    """The name and the parent of each process."""
+    there = {}
+    for status in Path("/proc").glob("[0-9]*/stat"):
+        with contextlib.suppress(OSError):
+            name, rest = status.read_text().split("(", 1)[1].rsplit(")", 1)
+            there[int(status.parent.name)] = name, int(rest.split()[1])
+    return there
+
+
+def is_at_work(tool: int, file: Path) -> bool:
+    """Whether a tool has opened the file that nobody writes to, has a program that sleeps, or has ended."""
+    there = processes()
+    asleep = {parent for name, parent in there.values() if name == "sleep"}
+    while asleep and tool not in asleep:
+        asleep = {there[process][1] for process in asleep if process in there}
+    try:
+        opened = {os.path.realpath(number) for number in Path(f"/proc/{tool}/fd").iterdir()}
+    except OSError:
+        return True
+    return tool in asleep or str(file.resolve()) in opened
 
 
 def cases() -> list[str]:
@@ -129,10 +153,14 @@ class Endings(unittest.TestCase):
 
     def test_an_interrupt(self) -> None:
         how = {"cwd": TOP, "stdin": subprocess.DEVNULL, "stdout": subprocess.DEVNULL, "stderr": subprocess.PIPE, "text": True, "start_new_session": True}
+        file = self.folder / "waits"
+        self.addCleanup(os.close, os.open(file, os.O_RDWR))
         all_begun = [(words, subprocess.Popen(placed(self.folder, words), **how)) for words in WAITS if is_there(words)]
-        time.sleep(5)
         for words, begun in all_begun:
             with self.subTest(words):
+                last = time.monotonic() + 60
+                while not is_at_work(begun.pid, file) and time.monotonic() < last:
+                    time.sleep(0.1)
                 os.killpg(begun.pid, signal.SIGINT)
                 _, said = begun.communicate(timeout=60)
                 self.assertNotIn("Traceback", said)
