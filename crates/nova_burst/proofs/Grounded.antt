@@ -21,7 +21,7 @@ use Rattle.nova_frames.proofs.Replaced.{little_number-replaced_other}
 use Rattle.nova_memory.proofs.Remembered.{apart_of, set_or}
 use Rattle.nova_burst.specs.Copies.{CopiesState, fetched, known_in, lease_of}
 use Rattle.nova_burst.specs.Grounds.{AreLeft, AreRead, IsRead, IsUnread}
-use Rattle.nova_burst.specs.declared.ground.Slot.{Slot}
+use Rattle.nova_burst.specs.declared.run.Slot.{Slot}
 use Rattle.nova_burst.proofs.Places.{whole_kept}
 
 -- WHAT IS REMEMBERED

@@ -6,7 +6,7 @@ use Rattle.nova_guest.specs.Frames.{frame_from}
 use Rattle.nova_range.specs.Rights.{execute_right}
 use Rattle.law_leases.specs.declared.steps.Page.{Page}
 use Rattle.nova_burst.specs.Copies.{CopiesState, fetched, known_in}
-use Rattle.nova_burst.specs.declared.ground.Slot.{Slot}
+use Rattle.nova_burst.specs.declared.run.Slot.{Slot}
 
 -- a word lies at an address, which is a multiple of 4
 pub record IsReadAt (s : CopiesState) (address word : ℕ) : Type 0 where

@@ -6,8 +6,7 @@ ghost use Rattle.nova_burst.specs.Copies.{known_in};
 ghost use Rattle.nova_burst.specs.Lending.{AreCounted, IsSameLease, MustStop, StemsFrom, left_in, lease_state_of};
 
 use crate::copies::{Copies, Known};
-use crate::ground::Ground;
-use crate::run::Burst;
+use crate::run::{Burst, Ground};
 use law_leases::{Page, Steps};
 use rv_core::Regs;
 use std::marker::Model;

@@ -1,7 +1,6 @@
 //! Hypercalls: what a thread's registers ask for.
 #![tactic(auto)]
 
-mod arguments;
 pub mod call;
 pub mod laws;
 pub mod numbers;

@@ -1,14 +1,67 @@
-ghost use Rattle.std.specs.Prelude.{◌≡◌, ◌<◌, ◌↔◌, IfSome, IfOk};
+ghost use Rattle.std.specs.Prelude.{◌≡◌, ◌==◌, if◌then◌else◌, IfSome, ◌<◌, ◌↔◌, IfOk};
+ghost use Rattle.nova_range.specs.Ranges.{IsRange};
+ghost use Rattle.nova_calls.specs.Hypercalls.{is_selector, is_flag, kind_of, action_of, range_of, call_of, call_row, create_pd_row, create_ec_row, create_sc_row, create_pt_row, create_sm_row, revoke_row, lookup_row, ec_ctrl_row, sc_ctrl_row, pt_ctrl_row, sm_ctrl_row};
 ghost use Rattle.rv_model.specs.Registers.{reg};
-ghost use Rattle.nova_calls.specs.Hypercalls.{call_of, call_row, create_pd_row, create_ec_row, create_sc_row, create_pt_row, create_sm_row};
-ghost use Rattle.nova_calls.specs.Hypercalls.{revoke_row, lookup_row, ec_ctrl_row, sc_ctrl_row, pt_ctrl_row, sm_ctrl_row};
 ghost use Rattle.nova_calls.specs.SoundCalls.{IsSoundCall};
 
-use crate::arguments::{ec_kind, flag, range, selector, sm_action};
-use crate::call::Call;
+use crate::call::{Call, SmAction};
 use crate::numbers;
-use nova_range::{Flags, Mtd, Status, read_word};
+use nova_objects::EcKind;
+use nova_range::{Flags, Mtd, Range, Status, read_word};
 use rv_model::Regs;
+
+/// The selector `word`, or nothing where the word is none.
+pub(crate) fn selector(word: u32) -> Option<u32>
+    ensures { result ≡ (if is_selector word then Some word else None) }
+{
+    if word < 1 << 20 { Some(word) } else { None }
+}
+
+/// The flag `word`, or nothing where the word is neither 0 nor 1.
+pub(crate) fn flag(word: u32) -> Option<bool>
+    ensures { result ≡ (if is_flag word then Some (word == 1) else None) }
+{
+    match word {
+        0 => Some(false),
+        1 => Some(true),
+        _ => None,
+    }
+}
+
+/// The kind of execution context of `number`, or nothing where no kind has the number.
+pub(crate) fn ec_kind(number: u32) -> Option<EcKind>
+    ensures { result ≡ kind_of number }
+{
+    match number {
+        0 => Some(EcKind::Local),
+        1 => Some(EcKind::Global),
+        2 => Some(EcKind::Vcpu),
+        _ => None,
+    }
+}
+
+/// The action on a semaphore that has `number`, or nothing where none has it; a down that is limited waits for at most `ticks` ticks.
+pub(crate) fn sm_action(number: u32, ticks: u32) -> Option<SmAction>
+    ensures { result ≡ action_of number ticks }
+{
+    match number {
+        0 => Some(SmAction::Up),
+        1 => Some(SmAction::Down),
+        2 => Some(SmAction::DownWithin(ticks)),
+        _ => None,
+    }
+}
+
+/// The range of the range word `word`, or nothing where the word doesn't read or is null.
+pub(crate) fn range(word: u32) -> Option<Range>
+    ensures range { result ≡ range_of word }
+    ensures sound { IfSome result IsRange }
+{
+    match read_word(word) {
+        Ok(Some((range, _))) => Some(range),
+        _ => None,
+    }
+}
 
 // Each function reads one row of the table of hypercalls. It answers nothing where an argument is
 // outside what the row takes.

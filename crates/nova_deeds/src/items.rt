@@ -2,7 +2,7 @@ ghost use Rattle.std.specs.Prelude.{◌≡◌, ◌<◌, ◌^◌, ℕ};
 ghost use Rattle.nova_delegate.specs.Parts.{IsUnderWay};
 ghost use Rattle.nova_range.specs.RangeWords.{meaning_of};
 ghost use Rattle.nova_range.specs.Rights.{IsRights};
-ghost use Rattle.nova_model.specs.Deeds.{gave};
+ghost use Rattle.nova_model.specs.Deeds.{gave, transfer_after};
 ghost use Rattle.nova_model.specs.Transfers.{read_as};
 ghost use Rattle.nova_model.specs.Deliveries.{whole_of, told_by, flag, words_for, sequel_of, finished, range_given};
 ghost use Rattle.nova_model.specs.State.{KernelState};
@@ -11,6 +11,13 @@ ghost use Rattle.nova_deeds.specs.Acts.{IsGivenBy, IsToBeDone};
 use nova_ec::Mark;
 use nova_model::{Deed, Delivery, ItemEnd, ItemWords, Job, Sequel, Transfer};
 use nova_range::{Range, read_word, word_of};
+
+/// An execution context gives no items yet.
+pub const NO_TRANSFER: Transfer = Transfer {
+    item: 0,
+    cursor: 0,
+    children: 0,
+};
 
 /// The flag of an item that delegates.
 pub const DELEGATES: u32 = 1;
@@ -109,5 +116,19 @@ pub fn gave(transfer: Transfer, cursor: u32) -> Transfer
         cursor,
         children: transfer.children + 1,
         ..transfer
+    }
+}
+
+/// The progress with items after `item`, which `after` follows: at the next, or at no item.
+pub fn transfer_after(item: u32, after: Sequel) -> Transfer
+    requires { item < 62 }
+    ensures { result ≡ transfer_after item after }
+{
+    match after {
+        Sequel::Item => Transfer {
+            item: item + 1,
+            ..NO_TRANSFER
+        },
+        _ => NO_TRANSFER,
     }
 }

@@ -1,13 +1,11 @@
 //! What deeds come to by themselves: what one makes of the execution context that does it, how it ends an item, whether it is an
-//! input for a virtual CPU, its sign in the trace, and what objects are at birth. The stir counts of virtual CPUs. And what deeds keep of the state.
+//! input for a virtual CPU, and its sign in the trace. The stir counts of virtual CPUs. And what deeds keep of the state.
 #![tactic(auto)]
 
-pub mod births;
 pub mod changes;
 pub mod inputs;
 pub mod items;
 mod roots;
-pub mod signs;
 pub mod stir_counts;
 
 pub use roots::{

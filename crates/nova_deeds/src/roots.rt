@@ -2,7 +2,7 @@ ghost use Rattle.std.specs.Prelude.{◌≡◌, ◌≤◌, [], ◌∷◌, replica
 ghost use Rattle.nova_model.specs.Boot.{root_objects, root_context};
 ghost use Rattle.nova_model.specs.State.{no_transfer};
 
-use crate::births::NO_TRANSFER;
+use crate::items::NO_TRANSFER;
 use crate::stir_counts::StirCounts;
 use nova_ec::Ecs;
 use nova_model::{EcKind, EcState, Object, Root, State, Transfer};

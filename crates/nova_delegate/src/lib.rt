@@ -2,12 +2,10 @@
 //! derivation, of which the next is found by a call; a translation is answered at once.
 #![tactic(auto)]
 
-pub mod jobs;
 pub mod laws;
 pub mod parts;
 pub mod translations;
 
-pub use jobs::job;
 pub use nova_model::{Job, Reason, Skip};
-pub use parts::next_part;
+pub use parts::{job, next_part};
 pub use translations::translate;

@@ -6,7 +6,7 @@ ghost use Rattle.nova_model.specs.Translations.{nearest, smaller, seen_through, 
 ghost use Rattle.nova_delegate.specs.Translations.{IsSeen};
 ghost use Rattle.nova_nodes.specs.NodesStates.{IsPlaced, IsSound};
 
-use crate::jobs::{is_same_kind, read};
+use crate::parts::{is_same_kind, read};
 use bitflags::Flags;
 use nova_model::Derivation;
 use nova_nodes::Nodes;

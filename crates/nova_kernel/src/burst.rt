@@ -1,17 +1,16 @@
-ghost use Rattle.std.specs.Prelude.{◌≡◌, ◌+◌, ◌<◌, ◌≤◌, ◌^◌, ℕ, replicate, slice_get, true, IsSome, IfSome};
+ghost use Rattle.std.specs.Prelude.{◌≡◌, ◌+◌, ◌<◌, ◌≤◌, ◌^◌, ℕ, replicate, slice_get, true, IfSome};
 ghost use Rattle.nova_model.specs.Inputs.{is_covered_for};
 ghost use Rattle.nova_model.specs.Runs.{run};
 ghost use Rattle.nova_model.specs.State.{entry};
-ghost use Rattle.nova_sched.specs.Queues as queues;
 ghost use Rattle.law_leases.specs.Commits.{IsReached, MayAdvance};
-ghost use Rattle.law_leases.specs.Paging.{AreFrames, charged_times, pages_written, seen_from, stored_to, stores_seen};
+ghost use Rattle.law_leases.specs.Paging.{AreFrames, pages_written, seen_from, stored_to, stores_seen};
 ghost use Rattle.nova_turn.specs.Parts.{state_of};
 ghost use Rattle.nova_turn.specs.Revoking.{AreRunning};
-ghost use Rattle.nova_turn.specs.Counted.{IsCounted, IsToBeCharged};
+ghost use Rattle.nova_turn.specs.Counted.{IsCounted};
 ghost use Rattle.nova_choice.specs.Schedules.{AreQueued};
 ghost use Rattle.nova_kernel.specs.Begun.{IsBegun};
-ghost use Rattle.nova_kernel.specs.Rides.{without_counts};
 
+use crate::riding::charge_times;
 use law_leases::{Page, Steps};
 use nova_turn::{Parts, Reach};
 
@@ -56,31 +55,6 @@ fn count_stores(parts: &mut Parts, ec: u32, pages: &[Page])
             parts.guests.rise_by(guest, count);
         }
     }
-}
-
-/// Charges `count` turns of the processor `cpu`, at most what is left of the quantum, to the scheduling context `sc`.
-pub(crate) fn charge_times(parts: &mut Parts, cpu: u32, sc: u32, count: u64)
-    requires charged { IsToBeCharged (without_counts (state_of parts.old)) }
-    requires queued { AreQueued (state_of parts.old) parts.old.queues.all }
-    requires turns { parts.old.turns + count ≤ 2 ^ 31 }
-    requires cpu { cpu < parts.old.cpus }
-    requires there { IsSome (queues.queued_at parts.old.queues.all sc) }
-    requires left { IfSome (queues.queued_at parts.old.queues.all sc) (λ e. count ≤ e.budget.left) }
-    ensures charged { state_of parts.new ≡ charged_times count (state_of parts.old) cpu sc }
-    ensures queued { AreQueued (state_of parts.new) parts.new.queues.all }
-    ensures there { IsSome (queues.queued_at parts.new.queues.all sc) }
-    ensures turns { parts.new.turns ≡ parts.old.turns + count }
-    ensures cpus { parts.new.cpus ≡ parts.old.cpus }
-    ensures revokes { parts.new.revokes ≡ parts.old.revokes }
-    ensures reach { parts.new.reach ≡ parts.old.reach }
-{
-    if count == 0 {
-        return;
-    }
-    parts.queues.spend(sc, (count - 1) as u32);
-    parts.queues.charge(sc);
-    parts.turns += count;
-    parts.times.pass(cpu, count);
 }
 
 /// Takes the turns of `steps` on the processor `cpu` at once, as many as its virtual CPU took instructions.

@@ -1,10 +1,10 @@
 ghost use Rattle.std.specs.Prelude.{◌≡◌, ◌+◌, ◌*◌, ◌^◌, ◌<◌, ◌≤◌, ◌-◌, length, map, replicate, slice_get, None, Some, IfSome, IfOk, OnOk, OnErr, option_map};
 ghost use Rattle.std.specs.Option.{option_copied};
-ghost use Rattle.nova_model.specs.State.{context_at};
-ghost use Rattle.nova_model.specs.Times.{until_due};
+ghost use Rattle.std.specs.List.{AllByRecursion};
+ghost use Rattle.nova_model.specs.State.{context_at, deadline_of};
+ghost use Rattle.nova_model.specs.Times.{clock, until_due};
 ghost use Rattle.nova_model.specs.Sources.{with_source};
 ghost use Rattle.nova_times.specs.Kept.{IsAlarm};
-ghost use Rattle.std.specs.List.{AllByRecursion};
 ghost use Rattle.nova_model.specs.declared.times.AlarmState.{AlarmState};
 ghost use Rattle.nova_model.specs.Choice.{choice, choose, is_quiet};
 ghost use Rattle.nova_model.specs.Delegations.{reach};
@@ -22,12 +22,14 @@ ghost use Rattle.law_leases.specs.Commits.{IsReached, MayAdvance};
 ghost use Rattle.nova_kernel.specs.Views.{ticks_of, left_of, semaphore_at, derivation_from, IsTurnTaken};
 
 use crate::burst::advance;
-use crate::choices::{keep, next_to_act};
+use crate::taking::{keep, next_to_act};
 use crate::view::guest_of;
 use law_leases::Steps;
 use nova_choice::Chosen;
 use nova_guest::{Guest, Input};
-use nova_model::{Alarm, Derivation, EcState, LogByte, Object, Rights, Root, Turn};
+use nova_model::{
+    Alarm, AlarmState, Deadline, Derivation, EcState, LogByte, Object, Rights, Root, Turn,
+};
 use nova_turn::Parts;
 use std::alloc::{AllocError, Global};
 use std::marker::Model;
@@ -286,6 +288,27 @@ impl Kernel {
         self.parts.times.until_due(cpu)
     }
 
+    /// The clock of the processor `cpu`: how many turns it took. 0 where no processor has the number.
+    pub fn clock(&self, cpu: u32) -> u64
+        ensures { result ≡ clock self.now.state.times cpu }
+    {
+        self.parts.times.clock(cpu)
+    }
+
+    /// The deadline of the execution context `ec`; none where it waits to none.
+    pub fn deadline(&self, ec: u32) -> Option<Deadline>
+        ensures { result ≡ deadline_of self.now.state.times ec }
+    {
+        self.parts.times.deadline(ec)
+    }
+
+    /// The alarm `number`, in the order in which they were added, with its next moment and how often it has rung; none where no alarm has the number.
+    pub fn alarm(&self, number: u32) -> Option<AlarmState>
+        ensures { result ≡ slice_get self.now.state.times.alarms number }
+    {
+        self.parts.times.alarm(number)
+    }
+
     /// The alarms, as they were added. Each rings at least once, its rings are apart, and its last moment is below 2^64.
     pub fn sources(&self) -> &[Alarm]
         ensures sources { result.now ≡ map (λ (a : AlarmState). a.alarm) self.now.state.times.alarms }
@@ -358,4 +381,12 @@ impl Kernel {
     {
         self.parts.reach.from_id(id)
     }
+}
+
+/// Drops a value out of line, part by part.
+fn destroy<T: Drop>(_value: T) {}
+
+/// Drops `kernel`. A kernel has many parts, which are proved to drop here, and not once more in each crate above.
+pub fn let_go(kernel: Kernel) {
+    destroy(kernel);
 }

@@ -5,20 +5,21 @@ ghost use Rattle.nova_model.specs.Runs.{run, trace};
 ghost use Rattle.nova_choice.specs.declared.choice.Chosen.{Chosen};
 ghost use Rattle.law_leases.specs.Advances.{step_of};
 ghost use Rattle.nova_turn.specs.Known.{AreKnown};
+ghost use Rattle.nova_sched.specs.Queues as queues;
 ghost use Rattle.nova_sched.specs.Queues.{queued_at};
 ghost use Rattle.nova_choice.specs.Choices.{chosen_of};
 ghost use Rattle.nova_choice.specs.Schedules.{AreQueued};
-ghost use Rattle.nova_turn.specs.Counted.{IsCounted};
+ghost use Rattle.nova_turn.specs.Counted.{IsCounted, IsToBeCharged};
 ghost use Rattle.law_turns.specs.Moments.{IsEarly};
-ghost use Rattle.nova_kernel.specs.Rides.{IsBeside, IsHalted, IsLater, IsNext, IsStepping, MayCount, Raises, after_turns, beside, step_by};
+ghost use Rattle.nova_kernel.specs.Rides.{IsBeside, IsHalted, IsLater, IsNext, IsStepping, MayCount, Raises, after_turns, beside, step_by, without_counts};
 ghost use Rattle.nova_model.specs.State.{KernelState, context, context_at};
 ghost use Rattle.law_leases.specs.Rides.{rides};
 ghost use Rattle.nova_turn.specs.Beside.{IsEntered, with_regs};
 ghost use Rattle.nova_turn.specs.Parts.{state_of};
 ghost use Rattle.nova_turn.specs.Revoking.{AreRunning};
 ghost use Rattle.nova_turn.specs.StoresSeen.{AreSeersOf};
+ghost use Rattle.law_leases.specs.Paging.{charged_times};
 
-use crate::burst::charge_times;
 use nova_choice::Chosen;
 use nova_model::{Event, EventKind, State};
 use nova_turn::{Parts, Raised, Seers};
@@ -265,4 +266,29 @@ pub(crate) fn quanta(
     let ridden = ride_quanta(parts, known, cpu, chosen, &mut regs, &mut seers, most);
     parts.contexts.set_regs(chosen.actor, &regs);
     ridden
+}
+
+/// Charges `count` turns of the processor `cpu`, at most what is left of the quantum, to the scheduling context `sc`.
+pub(crate) fn charge_times(parts: &mut Parts, cpu: u32, sc: u32, count: u64)
+    requires charged { IsToBeCharged (without_counts (state_of parts.old)) }
+    requires queued { AreQueued (state_of parts.old) parts.old.queues.all }
+    requires turns { parts.old.turns + count ≤ 2 ^ 31 }
+    requires cpu { cpu < parts.old.cpus }
+    requires there { IsSome (queues.queued_at parts.old.queues.all sc) }
+    requires left { IfSome (queues.queued_at parts.old.queues.all sc) (λ e. count ≤ e.budget.left) }
+    ensures charged { state_of parts.new ≡ charged_times count (state_of parts.old) cpu sc }
+    ensures queued { AreQueued (state_of parts.new) parts.new.queues.all }
+    ensures there { IsSome (queues.queued_at parts.new.queues.all sc) }
+    ensures turns { parts.new.turns ≡ parts.old.turns + count }
+    ensures cpus { parts.new.cpus ≡ parts.old.cpus }
+    ensures revokes { parts.new.revokes ≡ parts.old.revokes }
+    ensures reach { parts.new.reach ≡ parts.old.reach }
+{
+    if count == 0 {
+        return;
+    }
+    parts.queues.spend(sc, (count - 1) as u32);
+    parts.queues.charge(sc);
+    parts.turns += count;
+    parts.times.pass(cpu, count);
 }

@@ -1,20 +1,60 @@
-ghost use Rattle.std.specs.Prelude.{◌≡◌, ◌+◌, ◌^◌, ◌<◌, ◌≤◌, replicate, None, Some, IfSome, IfOk, OnOk, OnErr, option_map};
+ghost use Rattle.std.specs.Prelude.{◌≡◌, IsSome, IfSome, option_map, ◌+◌, ◌^◌, ◌<◌, ◌≤◌, replicate, None, Some, IfOk, OnOk, OnErr};
 ghost use Rattle.std.specs.Bool.{OnTrue};
-ghost use Rattle.nova_model.specs.Choice.{choice};
+ghost use Rattle.nova_model.specs.Choice.{next_to_act, choice};
+ghost use Rattle.nova_model.specs.State.{context_at};
+ghost use Rattle.nova_choice.specs.Choices.{chosen_of};
+ghost use Rattle.nova_choice.specs.Schedules.{AreQueued};
+ghost use Rattle.nova_turn.specs.Known.{AreKnown};
+ghost use Rattle.nova_turn.specs.Parts.{state_of};
+ghost use Rattle.nova_kernel.specs.Known.{known_after};
 ghost use Rattle.nova_model.specs.Runs.{run, trace};
 ghost use Rattle.nova_model.specs.Turn.{turn, state_after, answer_of};
-ghost use Rattle.nova_choice.specs.Choices.{chosen_of};
 ghost use Rattle.law_leases.specs.Advances.{step_of};
 ghost use Rattle.nova_kernel.specs.Rides.{IsHalted, after_turns, last_turns, step_by};
 ghost use Rattle.nova_kernel.specs.Views.{IsMaking, IsTurnTaken};
 
-use crate::choices::keep;
 use crate::kernel::Kernel;
 use crate::riding::{Ridden, StepsTaken, is_stepping, none_tried, plain_step, quanta};
 use nova_choice::Chosen;
-use nova_model::{Event, Turn};
-use nova_turn::Raised;
+use nova_model::{Event, EventKind, Turn};
+use nova_turn::{Parts, Raised};
 use std::alloc::AllocError;
+
+/// Keeps in `known` what is known after `turn`: an instruction that went on leaves all choices, and its own is
+/// known then. Any other deed may lead turns elsewhere, so that nothing is known.
+pub fn keep(known: &mut [Option<Chosen>; 8], turn: &Turn)
+    ensures { known.new ≡ known_after turn.now known.old }
+{
+    let Turn::Stepped(event) = turn else {
+        return;
+    };
+    match event.kind {
+        EventKind::Step => {
+            if event.cpu < 8 {
+                known[event.cpu as usize] = Some(Chosen {
+                    sc: event.sc,
+                    actor: event.ec,
+                });
+            }
+        }
+        _ => *known = [None; 8],
+    }
+}
+
+/// The scheduling context that the next turn of the processor `cpu` is charged to, and the context that acts in it; none where something is due or
+/// nothing is runnable.
+pub fn next_to_act(parts: &Parts, cpu: u32, known: &[Option<Chosen>]) -> Option<Chosen>
+    requires queued { AreQueued (state_of parts.now) parts.now.queues.all }
+    requires known { AreKnown (state_of parts.now) known.now }
+    ensures next { result ≡ option_map chosen_of (next_to_act (state_of parts.now) cpu) }
+    ensures acts { IfSome result (λ c. IsSome (context_at (state_of parts.now) c.actor)) }
+{
+    if parts.times.is_due(cpu) {
+        None
+    } else {
+        parts.choice(cpu, known)
+    }
+}
 
 /// Turns of a processor that were taken in one call: plain steps, and after them perhaps a turn of any kind.
 #[derive(Drop)]
@@ -69,31 +109,8 @@ impl Kernel {
         Some(plain_step(cpu, chosen))
     }
 
-    /// As many turns of a processor as instructions of the execution context that acts there go on one after another, at once: at most
-    /// so many, and what is left until something is due there, through several quanta as long as the same one is chosen. Needs spare log for them all; with the turns taken before they are at most 2^31.
-    pub fn steps(&mut self, cpu: u32, most: u64) -> StepsTaken
-        requires cpu { cpu < self.old.state.cpus }
-        requires room { most ≤ self.old.room }
-        requires turns { self.old.state.turns + most ≤ 2 ^ 31 }
-        ensures most { result.count ≤ most }
-        ensures event { result.event ≡ option_map (step_of cpu) (choice self.old.state cpu) }
-        ensures none { result.event ≡ None → result.count ≡ 0 }
-        ensures state { self.new.state ≡ run self.old.state (replicate result.count cpu) }
-        ensures events { IfSome result.event (λ e. trace self.old.state (replicate result.count cpu) ≡ replicate result.count e) }
-        ensures room { self.old.room ≤ self.new.room + result.count }
-    {
-        let Some(chosen) = self.parts.choice(cpu, &self.known) else {
-            return StepsTaken {
-                event: None,
-                count: 0,
-            };
-        };
-        let event = Some(plain_step(cpu, chosen));
-        let count = self.ride_on(cpu, chosen, most).count;
-        StepsTaken { event, count }
-    }
-
-    /// Turns of a processor in one call, at most so many: plain steps as `steps` takes them, and where the next instruction raises, or none
+    /// Takes at most `most` turns of the processor `cpu` in one call: plain steps, as many as instructions of the execution context that acts there go on
+    /// one after another, through several quanta as long as the same one is chosen, and nothing is due; and where the next instruction raises, or none
     /// could be taken so, the turn that comes next, which may be idle. Where that is refused memory, the plain steps were taken. Needs spare log
     /// for them all; with the turns taken before they are at most 2^31.
     #[inline(always)]

@@ -10,8 +10,8 @@ use Rattle.nova_model.specs.declared.delegation.Derivation.{Derivation}
 use Rattle.nova_frames.specs.Store.{AreApart, AreWhole}
 use Rattle.nova_memory.specs.Reach.{ReachState}
 use Rattle.nova_memory.specs.Recalled.{AreLeft, AreRecalled, IsReadAt, LiesAt, StandsAt}
-use Rattle.nova_memory.specs.declared.recalled.Recalled.{Recalled}
-use Rattle.nova_memory.specs.declared.recalled.Slot.{Slot}
+use Rattle.nova_memory.specs.declared.stepping.Recalled.{Recalled}
+use Rattle.nova_memory.specs.declared.stepping.Slot.{Slot}
 use Rattle.nova_memory.proofs.Placed.{AreFoundStill}
 use Rattle.nova_memory.proofs.Recents.{hit, leads_still}
 

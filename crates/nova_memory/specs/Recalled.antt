@@ -5,8 +5,8 @@ use Rattle.nova_model.specs.Memory.{Memory, read}
 use Rattle.nova_model.specs.declared.delegation.Derivation.{Derivation}
 use Rattle.nova_memory.specs.Reach.{ReachState, fetched}
 use Rattle.nova_memory.specs.Recents.{LeadsOn}
-use Rattle.nova_memory.specs.declared.recalled.Recalled.{Recalled}
-use Rattle.nova_memory.specs.declared.recalled.Slot.{Slot}
+use Rattle.nova_memory.specs.declared.stepping.Recalled.{Recalled}
+use Rattle.nova_memory.specs.declared.stepping.Slot.{Slot}
 
 -- an instruction that is fetched at an address finds a word there
 pub record IsReadAt (s : ReachState) (address word : ℕ) : Type 0 where

@@ -6,9 +6,9 @@ ghost use Rattle.nova_nodes.specs.NodesStates.{room};
 ghost use Rattle.nova_memory.specs.Reach.{page_range, selector_range};
 
 use crate::reach::Reach;
-use crate::recalled::Recalled;
 use crate::recent::Recents;
 use crate::sights::Sights;
+use crate::stepping::Recalled;
 use bitflags::Flags;
 use nova_frames::Frames;
 use nova_messages::Messages;

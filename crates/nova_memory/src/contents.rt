@@ -1,4 +1,4 @@
-ghost use Rattle.std.specs.Prelude.{◌≡◌, ◌≤◌, ◌<◌, ◌*◌, ◌+◌, ◌-◌, [], ◌∷◌, ◌++◌, length, max, slice_get, slice_set, true, Some, IsOk, OnOk, OnErr};
+ghost use Rattle.std.specs.Prelude.{◌≡◌, ◌≤◌, ◌<◌, ◌*◌, ◌+◌, ◌-◌, [], ◌∷◌, ◌++◌, length, max, slice_get, slice_set, true, Some, IsOk, OnOk, OnErr, option_map};
 ghost use Rattle.nova_utcb.specs.Messages.{copied, has_counts};
 ghost use Rattle.nova_model.specs.Boot.{laid};
 ghost use Rattle.nova_model.specs.State.{entry, message_in};
@@ -99,5 +99,20 @@ impl Reach {
         ensures { self.new ≡ record self.old { messages = record self.old.messages { items = slice_set self.old.messages.items to (Some (copied (message_in (entry (slice_get self.old.messages.items from))) (message_in (entry (slice_get self.old.messages.items to))))) } } }
     {
         self.messages.pass(from, to);
+    }
+
+    /// Makes room for `bytes` more bytes in the console log. Room that was made before stays.
+    pub fn reserve_log(&mut self, bytes: usize) -> Result<(), AllocError>
+        ensures ok { OnOk result (self.new ≡ record self.old { room = max self.old.room bytes }) }
+        ensures err { OnErr result (self.new ≡ self.old) }
+    {
+        self.frames.reserve_log(bytes)
+    }
+
+    /// The message words of the execution context `ec`, where it has some.
+    pub fn words(&self, ec: u32) -> Option<&Utcb>
+        ensures { option_map (λ words. words.now) result ≡ entry (slice_get self.now.messages.items ec) }
+    {
+        self.messages.words(ec)
     }
 }

@@ -1,16 +1,22 @@
-ghost use Rattle.std.specs.Prelude.{false, ◌≡◌, ◌≤◌, ◌-◌, ◌^◌, ◌<◌, ℕ, is_some, None, Some, IfSome, IsOk, OnOk};
+ghost use Rattle.std.specs.Prelude.{false, ◌≡◌, ◌≤◌, ◌-◌, ◌^◌, ◌<◌, ℕ, is_some, None, Some, IfSome, IsOk, OnOk, option_map, IfOk};
 ghost use Rattle.std.specs.List.{find};
 ghost use Rattle.nova_range.specs.Rights.{IsRights};
-ghost use Rattle.nova_model.specs.Delegations.{added, covers, derived, from_id, with_id};
+ghost use Rattle.nova_model.specs.Delegations.{added, covers, derived, from_id, with_id, without};
 ghost use Rattle.nova_model.specs.Translations.{translated};
 ghost use Rattle.nova_nodes.specs.NodesStates.{IsPlaced, room};
-ghost use Rattle.nova_delegate.specs.Parts.{IsReady};
+ghost use Rattle.nova_delegate.specs.Parts.{IsReady, IsUnderWay, pair_of};
 ghost use Rattle.nova_memory.specs.Reach.{selector_range};
+ghost use Rattle.nova_model.specs.Transfers.{next_part};
+ghost use Rattle.nova_revoke.specs.Runners.{busy_under};
+ghost use Rattle.law_forest.specs.Courses.{IsLeaf};
+ghost use Rattle.nova_model.specs.Forest.{IsChildless};
+ghost use Rattle.nova_model.specs.Revokes.{next_leaf};
 
 use crate::reach::Reach;
-use nova_delegate::translate;
-use nova_model::{Derivation, Kind, Rights};
+use nova_delegate::{next_part, translate};
+use nova_model::{Derivation, Job, Kind, Reason, Rights};
 use nova_range::Range;
+use nova_revoke::{Revoke, Running, next_leaf};
 use std::alloc::AllocError;
 
 /// Whether `derivation` lies in a space of the protection domain `pd` and covers `place`.
@@ -170,5 +176,46 @@ impl Reach {
         ensures { result ≡ translated self.now.nodes.delegations.list word window giver receiver }
     {
         translate(&self.nodes, word, window, giver, receiver)
+    }
+
+    /// The next part of `job` while `revokes` run: the giver's derivation that it is of, with the child to be
+    /// made of it or the first reason to skip it. The answer is nothing where none is left.
+    pub fn next_part(
+        &self,
+        job: &Job,
+        revokes: &[Running],
+    ) -> Option<(Derivation, Result<Derivation, Reason>)>
+        requires job { IsUnderWay job.now }
+        ensures part { result ≡ option_map pair_of (next_part (busy_under revokes.now self.now.nodes.delegations.list) self.now.nodes.delegations job.now) }
+        ensures source { IfSome result (λ p. IsPlaced p.0) }
+        ensures child { IfSome result (λ p. IfOk p.1 (IsReady self.now.nodes.delegations)) }
+    {
+        next_part(&self.nodes, job, revokes)
+    }
+
+    /// The leaf that `revoke` takes next; nothing where nothing is left of what it takes. The next search may be quicker; what is kept stays.
+    pub fn next_leaf(&mut self, revoke: &Revoke) -> Option<Derivation>
+        ensures found { result ≡ next_leaf revoke.now self.old.nodes.delegations }
+        ensures leaf { IfSome result (IsLeaf revoke.now self.old.nodes.delegations) }
+        ensures kept { self.new ≡ self.old }
+    {
+        next_leaf(&mut self.nodes, revoke)
+    }
+
+    /// Takes away the derivation `id`, which is no other's parent.
+    pub fn remove_leaf(&mut self, id: u32)
+        requires childless { IsChildless self.old.nodes.delegations.list id }
+        ensures delegations { self.new.nodes.delegations ≡ without self.old.nodes.delegations id }
+        ensures memory { self.new.memory ≡ self.old.memory }
+        ensures messages { self.new.messages ≡ self.old.messages }
+        ensures consoles { self.new.consoles ≡ self.old.consoles }
+        ensures log { self.new.room ≡ self.old.room }
+    {
+        self.last = None;
+        self.sights.forget();
+        self.recents.forget();
+        self.others.forget();
+        self.recalled.forget();
+        self.nodes.remove_leaf(id);
     }
 }

@@ -1,17 +1,13 @@
 //! What leads from an address to a frame or to a message word: delegations, frames, and the message words of threads.
 #![tactic(auto)]
 
-mod ahead;
 mod boot;
 mod contents;
 mod delegations;
 mod maps;
 pub mod preview;
 pub mod reach;
-mod reading;
-mod recalled;
 mod recent;
-mod revoking;
 mod seeing;
 pub mod sights;
 mod stepping;

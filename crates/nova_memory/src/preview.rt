@@ -1,14 +1,42 @@
-ghost use Rattle.std.specs.Prelude.{◌≡◌, ◌+◌, ◌<◌, length, is_some, IfSome, None};
+ghost use Rattle.std.specs.Prelude.{◌≡◌, ◌<◌, ◌+◌, ◌*◌, ◌%◌, ◌^◌, length, IfSome, is_some, None};
+ghost use Rattle.std.specs.Bool.{OnTrue, OnFalse};
+ghost use Rattle.nova_model.specs.Delegations.{reach};
+ghost use Rattle.nova_model.specs.Memory.{read};
+ghost use Rattle.nova_utcb.specs.Pages.{IsWidth};
 ghost use Rattle.nova_model.specs.AddressSpaces.{frame_for, words_at};
 ghost use Rattle.nova_memory.specs.Previews.{entered};
 ghost use Rattle.nova_memory.specs.Reach.{reached};
-ghost use Rattle.std.specs.Bool.{OnTrue, OnFalse};
 ghost use Rattle.nova_range.specs.Rights.{write_right};
 
-use crate::reach::{OWN_PAGE, Reach, frame_with, is_own};
-use nova_model::{Page, Rights};
+use crate::reach::{OWN_PAGE, Reach, frame_with, is_own, page_in};
+use nova_model::{Kind, Page, Rights};
 use rv_core::bus::Bus;
 use std::marker::Model;
+
+// What is only looked at.
+impl Reach {
+    /// What `page` of the protection domain `pd` leads to, or nothing.
+    pub fn page(&self, pd: u32, page: u32) -> Option<Page>
+        ensures page { result ≡ reach self.now.nodes.delegations.list pd page }
+        ensures there { IfSome result (λ p. p.frame < length self.now.memory.ram + self.now.consoles) }
+    {
+        let derivation = self.nodes.covering(pd, Kind::Mem, page)?;
+        Some(page_in(&derivation, page))
+    }
+
+    /// The number in the 1, 2 or 4 bytes of `frame` from `offset` on, the lowest byte first. A console gives 0.
+    /// The frame exists, and the offset is a multiple of the width.
+    pub(crate) fn load_frame(&self, frame: u32, offset: u32, width: u32) -> u32
+        requires there { frame < length self.now.memory.ram + self.now.consoles }
+        requires width { IsWidth width }
+        requires within { offset < 4096 }
+        requires aligned { offset % width ≡ 0 }
+        ensures number { result ≡ read self.now.memory frame offset width }
+        ensures fits { result < 2 ^ (8 * width) }
+    {
+        self.frames.load(frame, offset, width)
+    }
+}
 
 /// A store of the lowest `width` bytes of `value` to `frame`, from `offset` on.
 #[derive(Clone, Copy)]

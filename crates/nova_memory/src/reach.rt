@@ -10,9 +10,9 @@ ghost use Rattle.nova_memory.specs.Previews.{entered};
 ghost use Rattle.nova_memory.specs.Reach.{ReachState, loaded, reached, stored, takes};
 
 use crate::delegations::covers;
-use crate::recalled::Recalled;
 use crate::recent::{Recent, Recents, frame_of};
 use crate::sights::Sights;
+use crate::stepping::Recalled;
 use bitflags::Flags;
 use nova_frames::Frames;
 use nova_messages::Messages;

@@ -2,18 +2,8 @@
 //! deeds are for a virtual CPU.
 #![tactic(auto)]
 
-mod contents;
-mod instructions;
-mod items;
-mod leaves;
-mod own;
-mod replies;
-mod stores;
+mod inputs;
+mod next;
 
-pub use contents::given_if;
-pub use instructions::{Ahead, next_instruction};
-pub use items::next_deed;
-pub use leaves::leaf_deed;
-pub use own::{input_if, own_input};
-pub use replies::reply_if;
-pub use stores::foreign;
+pub use inputs::{foreign, given_if, input_if, own_input, reply_if};
+pub use next::{Ahead, leaf_deed, next_deed, next_instruction};

@@ -3,8 +3,6 @@
 
 mod orders;
 mod rounds;
-mod turns;
 
 pub use orders::run_order;
-pub use rounds::{round_robin, run_all};
-pub use turns::kept;
+pub use rounds::{kept, round_robin, run_all};

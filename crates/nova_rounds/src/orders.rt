@@ -5,7 +5,7 @@ ghost use Rattle.nova_finished.specs.Finished.{IsFinished, IsIdleLine};
 ghost use Rattle.nova_finished.specs.declared.fault.RunFault.TheVariants.{OrderIdle};
 ghost use Rattle.nova_rounds.specs.UnderWay.{IsAlong, IsBegun};
 
-use crate::turns::{begin, kept, take};
+use crate::rounds::{begin, kept, take};
 use nova_finished::{Finished, RunFault};
 use nova_kernel::Kernel;
 use nova_order::Order;

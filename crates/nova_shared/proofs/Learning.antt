@@ -9,8 +9,8 @@ use Rattle.nova_model.specs.State.{KernelState}
 use Rattle.nova_shared.specs.Ran.{Ran}
 use Rattle.nova_shared.specs.Seen.{IsTurnOf, Learns, LearnsOfBlock, LearnsOfOthers, mine, seen}
 use Rattle.nova_shared.specs.Told.{IsTold, IsRefused}
-use Rattle.nova_shared.specs.declared.turn.SharedTurn.{SharedTurn}
-use Rattle.nova_shared.specs.declared.turn.SharedTurn.TheVariants.{Stepped, Idle, AtLimit}
+use Rattle.nova_shared.specs.declared.shared_run.SharedTurn.{SharedTurn}
+use Rattle.nova_shared.specs.declared.shared_run.SharedTurn.TheVariants.{Stepped, Idle, AtLimit}
 use Rattle.nova_shared.proofs.Seats.{block_mine, stepped_mine}
 
 prefix_length : (xs ys : List ℕ) → IsPrefix xs ys → length xs ≤ length ys

@@ -15,7 +15,7 @@ use Rattle.nova_finished.specs.UnderWay.{HasRoom, IsReady, Passed, left, taken}
 use Rattle.nova_shared.specs.Runs.{IsSharedRun}
 use Rattle.nova_shared.specs.Told.{IsTold, IsRefused}
 use Rattle.nova_finished.specs.declared.finished.Finished.{Finished}
-use Rattle.nova_shared.specs.declared.turn.SharedTurn.TheVariants.{Stepped, Idle, AtLimit}
+use Rattle.nova_shared.specs.declared.shared_run.SharedTurn.TheVariants.{Stepped, Idle, AtLimit}
 use Rattle.nova_finished.proofs.Passing.{run_on, trace_on}
 
 -- a run that has taken no turn

@@ -3,8 +3,8 @@ use Rattle.std.specs.Prelude.{◌≡◌, ℕ, ◌+◌, ◌-◌, ◌<◌, ◌≤�
 use Rattle.nova_lock.specs.History.{entries}
 use Rattle.nova_lock.specs.Seats.{SeatView}
 use Rattle.nova_shared.specs.Ran.{Ran}
-use Rattle.nova_shared.specs.declared.turn.SharedTurn.{SharedTurn}
-use Rattle.nova_shared.specs.declared.turn.SharedTurn.TheVariants.{Stepped, Idle, AtLimit}
+use Rattle.nova_shared.specs.declared.shared_run.SharedTurn.{SharedTurn}
+use Rattle.nova_shared.specs.declared.shared_run.SharedTurn.TheVariants.{Stepped, Idle, AtLimit}
 
 -- how many turns of all processors its last turn saw, its own included
 abbrev pub seen : SeatView Ran → ℕ

@@ -5,8 +5,8 @@ use Rattle.nova_kernel.specs.Views.{IsMaking}
 use Rattle.nova_model.specs.State.{KernelState}
 use Rattle.nova_model.specs.Turn.{turn}
 use Rattle.nova_model.specs.Runs.{run}
-use Rattle.nova_shared.specs.declared.turn.SharedTurn.{SharedTurn}
-use Rattle.nova_shared.specs.declared.turn.SharedTurn.TheVariants.{Stepped, Idle, AtLimit}
+use Rattle.nova_shared.specs.declared.shared_run.SharedTurn.{SharedTurn}
+use Rattle.nova_shared.specs.declared.shared_run.SharedTurn.TheVariants.{Stepped, Idle, AtLimit}
 
 abbrev pub IsTold : KernelState → ℕ → ℕ → List ℕ → List ℕ → SharedTurn → Type 0
 IsTold k most cpu found left (Stepped n) = (left ≡ found ++ cpu ∷ []) × (n ≡ length found + 1) × (n ≤ most) × IsSome (turn (run k found) cpu)

@@ -1,11 +1,9 @@
 //! A kernel that several processors run, each by a seat: the turns that they take have one order, and the kernel is the run over it.
 #![tactic(auto)]
 
-mod block;
 mod shared;
 mod shared_run;
-mod turn;
 
 pub use nova_finished::{Block, Finished};
 pub use shared::{CpuSeat, Shared};
-pub use turn::SharedTurn;
+pub use shared_run::SharedTurn;

@@ -11,9 +11,7 @@ ghost use Rattle.nova_shared.specs.Seen.{Learns, LearnsOfBlock, LearnsOfOthers, 
 ghost use Rattle.nova_shared.specs.Told.{HasNone, IsTold, IsRefused};
 ghost use Rattle.nova_finished.specs.UnderWay.{IsReady, HasRoom};
 
-use crate::block::{BlockDone, Blocking};
-use crate::shared_run::SharedRun;
-use crate::turn::{OneTurn, SharedTurn, Turns};
+use crate::shared_run::{BlockDone, Blocking, OneTurn, SharedRun, SharedTurn, Turns};
 use nova_finished::{Block, Finished};
 use nova_kernel::Kernel;
 use nova_lock::{HistoryLock, Seat};

@@ -1,14 +1,10 @@
-//! A deed is done, counted for those for which it is an input, and charged: a turn.
+//! A turn: who acts is chosen, a deed is done, counted for those for which it is an input, and charged.
 
-mod calls;
-mod charge;
 mod creation;
-mod doing;
 mod due;
-mod exits;
 mod instructions;
-mod items;
-mod queues;
+mod ipc;
+mod scheduling;
 pub mod seers;
 mod semaphores;
 mod stirs;

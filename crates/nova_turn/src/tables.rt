@@ -2,9 +2,6 @@
 
 mod boot;
 mod contexts;
-mod copy;
-pub(crate) mod groups;
+pub(crate) mod copy;
 pub mod inventory;
-mod messages;
-mod restore;
 mod sources;

@@ -1,7 +1,7 @@
 ghost use Rattle.std.specs.Prelude.{◌≡◌, ◌^◌, ◌-◌, ◌<◌, ◌≤◌, length, vec_len, vec_capacity, true, false, OnOk, OnErr};
 ghost use Rattle.std.specs.List.{AllByRecursion};
-ghost use Rattle.nova_model.specs.Capabilities.{is_held};
-ghost use Rattle.nova_model.specs.Creation.{with_object};
+ghost use Rattle.nova_model.specs.Capabilities.{is_held, target_of};
+ghost use Rattle.nova_model.specs.Creation.{with_object, first_state, object_of, context_of, transfer_of, identifier_of, count_of, stir_count_of, words_of};
 ghost use Rattle.nova_model.specs.Deeds.{is_making};
 ghost use Rattle.nova_turn.specs.Parts.{state_of, HasRoom, HasRoomFor};
 ghost use Rattle.nova_deeds.specs.Counted.{AreTables, IsNumbered};
@@ -11,14 +11,145 @@ ghost use Rattle.nova_choice.specs.Schedules.{FitsQueues, HasQueue, joined};
 use crate::parts::Parts;
 use nova_choice::enqueue;
 use nova_deeds::StirCounts;
-use nova_deeds::births::{
-    context_of, count_of, identifier_of, object_of, stir_count_of, target_of, transfer_of, words_of,
-};
+use nova_deeds::items::NO_TRANSFER;
 use nova_ec::Ecs;
-use nova_model::{Deed, NewObject, Rights, Transfer};
+use nova_model::{Deed, EcKind, EcState, NewObject, Object, Rights, State, Transfer};
+use nova_range::Target;
 use nova_sem::Sems;
 use nova_times::Times;
+use nova_utcb::Utcb;
+use rv_core::Regs;
 use std::alloc::AllocError;
+
+/// The target that `object` is, as rights go by it.
+fn target_of(object: Object) -> Target
+    ensures { result ≡ target_of object }
+{
+    match object {
+        Object::Pd => Target::Pd,
+        Object::Ec { .. } => Target::Ec,
+        Object::Sc { .. } => Target::Sc,
+        Object::Pt { .. } => Target::Pt,
+        Object::Sm => Target::Sm,
+    }
+}
+
+/// How an execution context of `kind` begins: a local thread waits for a caller.
+fn first_state(kind: EcKind) -> State
+    ensures { result ≡ first_state kind }
+{
+    match kind {
+        EcKind::Local => State::Parked,
+        EcKind::Global | EcKind::Vcpu => State::Fresh,
+    }
+}
+
+/// The object that is made as `new`.
+fn object_of(new: NewObject) -> Object
+    ensures { result ≡ object_of new }
+{
+    match new {
+        NewObject::Pd => Object::Pd,
+        NewObject::Ec {
+            pd,
+            cpu,
+            kind,
+            event,
+            ..
+        } => Object::Ec {
+            pd,
+            cpu,
+            kind,
+            event,
+        },
+        NewObject::Sc {
+            ec,
+            cpu,
+            priority,
+            quantum,
+        } => Object::Sc {
+            ec,
+            cpu,
+            priority,
+            quantum,
+        },
+        NewObject::Pt { ec, mtd, ip } => Object::Pt { ec, mtd, ip },
+        NewObject::Sm { .. } => Object::Sm,
+    }
+}
+
+/// The execution context of `number` at birth, where `new` is one.
+fn context_of(number: u32, new: NewObject) -> Option<EcState>
+    ensures { result ≡ context_of number new }
+{
+    match new {
+        NewObject::Ec { cpu, kind, sp, .. } => Some(EcState {
+            id: number,
+            cpu,
+            state: first_state(kind),
+            regs: Regs::new(0, sp),
+            caller: None,
+            recall: false,
+        }),
+        _ => None,
+    }
+}
+
+/// The progress with items that a new `object` begins with: none yet for an execution context; nothing for any other object.
+fn transfer_of(object: Object) -> Option<Transfer>
+    ensures { result ≡ transfer_of object }
+{
+    match object {
+        Object::Ec { .. } => Some(NO_TRANSFER),
+        _ => None,
+    }
+}
+
+/// The message words that `object` begins with: all 0 for a thread, none for any other object.
+fn words_of(object: Object) -> Option<Utcb>
+    ensures { result ≡ words_of object }
+{
+    match object {
+        Object::Ec {
+            kind: EcKind::Local | EcKind::Global,
+            ..
+        } => Some(Utcb::new()),
+        _ => None,
+    }
+}
+
+/// The stir count that `object` begins with: 0 for a virtual CPU, none for any other object.
+fn stir_count_of(object: Object) -> Option<u64>
+    ensures { result ≡ stir_count_of object }
+{
+    match object {
+        Object::Ec {
+            kind: EcKind::Vcpu,
+            ..
+        } => Some(0),
+        _ => None,
+    }
+}
+
+/// The identifier that `new` begins with, where it is a portal.
+fn identifier_of(new: NewObject) -> Option<u32>
+    ensures { result ≡ identifier_of new }
+{
+    match new {
+        NewObject::Pt { .. } => Some(0),
+        _ => None,
+    }
+}
+
+/// The counter that `new` begins with, where it is a semaphore.
+fn count_of(new: NewObject) -> Option<u32>
+    ensures { result ≡ count_of new }
+{
+    match new {
+        NewObject::Sm { count } => Some(count),
+        _ => None,
+    }
+}
 
 /// Makes room for one more object among the execution contexts, with how far they are with items, and the
 /// identifiers of portals.

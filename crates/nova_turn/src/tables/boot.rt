@@ -5,7 +5,7 @@ ghost use Rattle.nova_choice.specs.Schedules.{root_schedule};
 ghost use Rattle.nova_turn.specs.Parts.{state_of};
 
 use crate::parts::Parts;
-use crate::tables::groups::{Agenda, ContextTables, Groups, ObjectTables, let_go, together};
+use crate::tables::copy::{Agenda, ContextTables, Groups, ObjectTables, let_go, together};
 use crate::tables::inventory::Inventory;
 use nova_choice::root_queues;
 use nova_deeds::{

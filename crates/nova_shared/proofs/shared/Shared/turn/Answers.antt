@@ -1,7 +1,7 @@
 use Rattle.std.proofs.Common.{rules, ◌≡◌, ap, ℕ, [], ◌∷◌, length, arith, length-append, subst}
 use Rattle.nova_lock.specs.History.{entries}
 use Rattle.nova_shared.specs.Told.{IsTold}
-use Rattle.nova_shared.specs.declared.turn.SharedTurn.{SharedTurn}
+use Rattle.nova_shared.specs.declared.shared_run.SharedTurn.{SharedTurn}
 use Rattle.nova_shared.proofs.Seats.{stepped_mine}
 use Rattle.nova_shared.proofs.shared.Shared.turn.Goals as goal
 

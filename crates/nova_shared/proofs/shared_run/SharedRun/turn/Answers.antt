@@ -4,7 +4,7 @@ use Rattle.nova_model.specs.Turn.{turn}
 use Rattle.nova_order.specs.Blocks.{turns}
 use Rattle.nova_shared.specs.Ran.{Ran}
 use Rattle.nova_shared.specs.Told.{IsTold, IsRefused}
-use Rattle.nova_shared.specs.declared.turn.SharedTurn.TheVariants.{Stepped, Idle, AtLimit}
+use Rattle.nova_shared.specs.declared.shared_run.SharedTurn.TheVariants.{Stepped, Idle, AtLimit}
 use Rattle.nova_shared.proofs.Shares.{shared_on, told_stepped, told_idle, told_limit, told_refused, there_on}
 use Rattle.nova_shared.proofs.shared_run.SharedRun.turn.Goals as goal
 

@@ -1,6 +1,0 @@
-use Rattle.std.proofs.Common.{refl}
-use Rattle.nova_rounds.proofs.Passes.{Passed-none}
-use Rattle.nova_rounds.proofs.turns.make_places.Goals as goal
-
-pub returns-clause-none : goal.returns-clause-none
-returns-clause-none c = Passed-none c.args.run.now _ c.requires.ready refl refl refl c.reserve.ensures.items refl
