@@ -1,4 +1,5 @@
 pub mod Alone
+pub mod Consoles
 pub mod Giving
 pub mod Joining
 pub mod Lookups

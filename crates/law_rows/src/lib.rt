@@ -41,7 +41,7 @@ pub use refusals::{
 };
 pub use registers::{registers_ask_for_these_calls, registers_that_ask_for_nothing};
 pub use signs::events_tell_these_numbers;
-pub use stores::stores_are_done;
+pub use stores::{stores_are_done, what_consoles_got_stays};
 pub use turning::{
     a_deed_leaves_its_actor_so, each_state_has_its_deed, only_what_is_asked_for_changes_others,
 };

@@ -1,12 +1,15 @@
-ghost use Rattle.std.specs.Prelude.{◌≡◌, ℕ, ◌+◌, ◌-◌, ◌%◌, ◌^◌, ◌<◌, ◌≤◌, [], ◌∷◌, ◌++◌, length, Some};
+ghost use Rattle.std.specs.Prelude.{◌≡◌, ◌⊎◌, ℕ, ◌+◌, ◌-◌, ◌%◌, ◌^◌, ◌<◌, ◌≤◌, List, [], ◌∷◌, ◌++◌, length, Some};
+ghost use mathlib.Core.List.{IsPrefix};
 ghost use Rattle.rv_model.specs.Registers.{Registers};
 ghost use Rattle.rv_model.specs.Step.{Store, Went};
 ghost use Rattle.nova_frames.specs.Store.{AreWhole};
 ghost use Rattle.nova_model.specs.AddressSpaces.{frame_for};
 ghost use Rattle.nova_model.specs.Deeds.{address_space, done, instruction};
 ghost use Rattle.nova_model.specs.Memory.{read};
+ghost use Rattle.nova_model.specs.Runs.{after, run};
 ghost use Rattle.nova_model.specs.State.{KernelState};
 ghost use Rattle.nova_model.specs.declared.deed.Deed.TheVariants.{Steps};
+ghost use Rattle.nova_model.specs.declared.log.LogByte.{LogByte};
 ghost use Rattle.nova_range.specs.Rights.{write_right};
 
 use nova_frames::laws::loads_give_what_was_stored;
@@ -26,3 +29,11 @@ pub fn stores_are_done()
 {
     loads_give_what_was_stored();
 }
+
+/// What consoles got stays: a turn leaves it, or enters one byte behind it. So from any state on, whatever turns follow, the bytes that were stored to
+/// consoles before are the first of those that were stored after, in the same order.
+pub fn what_consoles_got_stays()
+    ensures turn { (k : KernelState) (cpu : ℕ) →
+        ((after k cpu).memory.log ≡ k.memory.log) ⊎ ((b : LogByte) × ((after k cpu).memory.log ≡ k.memory.log ++ b ∷ [])) }
+    ensures run { (k : KernelState) (turns : List ℕ) → IsPrefix k.memory.log (run k turns).memory.log }
+{}
