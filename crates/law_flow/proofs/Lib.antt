@@ -27,12 +27,14 @@ pub mod Own
 pub mod Growing
 pub mod Grown
 pub mod Lasting
+pub mod Apart
 pub mod Timing
 pub mod Choosing
 pub mod Paying
 pub mod Telling
 pub mod Ringing
 pub mod Home
+pub mod Elsewhere
 pub mod Away
 pub mod Divided
 pub mod Second
@@ -41,3 +43,4 @@ pub mod Looking
 pub mod Meeting
 pub mod Deriving
 pub mod Working
+pub mod Founding

@@ -13,7 +13,7 @@ use Rattle.nova_model.specs.Edges.{edge_of}
 use Rattle.nova_model.specs.State.{Contexts, context_in, ec_in, entry}
 use Rattle.nova_model.specs.declared.context.EcState.{EcState}
 use Rattle.nova_model.specs.declared.context.State.{State}
-use Rattle.nova_model.specs.declared.context.State.TheVariants.{Blocked, Dead, Fresh, Parked}
+use Rattle.nova_model.specs.declared.context.State.TheVariants.{Blocked, Dead, Fresh, Parked, Ready}
 use Rattle.nova_model.specs.declared.delegation.Derivation.{Derivation}
 use Rattle.law_forest.specs.Within.{LeadsTo}
 use Rattle.law_forest.proofs.Members.{IsIn, found_in}
@@ -108,6 +108,7 @@ IsCalm None = Unit {0}
 IsCalm (Some Dead) = Unit {0}
 IsCalm (Some Fresh) = Unit {0}
 IsCalm (Some Parked) = Unit {0}
+IsCalm (Some Ready) = Unit {0}
 IsCalm other = ⊥
 
 pub calm_edge : (o : Option State) (handler : ℕ) → IsCalm o → option_and_then edge_of o ≡ Some handler → ⊥
@@ -115,6 +116,7 @@ calm_edge None handler c e = cc
 calm_edge (Some Dead) handler c e = cc
 calm_edge (Some Fresh) handler c e = cc
 calm_edge (Some Parked) handler c e = cc
+calm_edge (Some Ready) handler c e = cc
 calm_edge (Some other) handler c e = absurd c
 
 pub calm_wait : (o : Option State) (sm : ℕ) → IsCalm o → o ≡ Some (Blocked sm) → ⊥

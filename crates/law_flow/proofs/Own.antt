@@ -1,4 +1,4 @@
--- A turn of the side's own keeps the condition, too; so along turns it stays true, and each turn of others leaves the side alone.
+-- A turn of the side's own keeps the condition, too, where it makes no object.
 use Rattle.std.proofs.Common.{◌≡◌, ℕ, List, [], ◌∷◌, ◌++◌, refl, sym, ap, ◌∙◌, subst, inl, inr, arith}
 use Rattle.std.specs.Prelude.{Bool, true, false, Contains, slice_get, option_map, Option, Some, None}
 use Rattle.std.specs.List.{find}
@@ -16,28 +16,29 @@ use Rattle.nova_model.specs.declared.deed.Deed.{Deed}
 use Rattle.nova_model.specs.declared.deed.Deed.TheVariants as deeds
 use Rattle.nova_model.specs.declared.delegation.Derivation.{Derivation}
 use Rattle.nova_model.specs.declared.times.Deadline.{Deadline}
-use Rattle.law_forest.specs.Effects.{Branch, branch_by, branched, deadline_by, deadlines_with, made_by, no_deadline}
+use Rattle.nova_model.specs.declared.new_object.NewObject.{NewObject}
+use Rattle.law_forest.specs.Effects.{Branch, branch_by, branched, deadline_by, deadlines_with, joined, made_by, no_deadline}
 use Rattle.law_forest.specs.Turns.{turned}
 use Rattle.law_forest.proofs.Members.{IsIn, contains_from_in, in_from_contains}
+use Rattle.law_turns.proofs.Setting.{more_at}
 use Rattle.law_isolation.specs.Sound.{IsSound}
 use Rattle.law_isolation.proofs.Runs.{reached_sound}
-use Rattle.law_origins.proofs.Lists.{run_append}
 use Rattle.law_integrity.specs.Confined.{JoinsSet, Of, more}
 use Rattle.law_integrity.proofs.Entries.{get_set}
-use Rattle.law_flow.specs.Flow.{AreLeftAlone, AreAtWorkTimeless, DerivesWithin, fixed, held_by, IsPartitioned, IsSide, IsTimeless, IsAtWork, RevokesNothing, own_turn}
+use Rattle.law_flow.specs.Flow.{DerivesWithin, held_by, IsPartitioned, IsSide, IsAtWork, RevokesNothing, own_turn}
 use Rattle.law_flow.proofs.Deciding.{IsOwn}
 use Rattle.law_flow.proofs.Doing.{branch_none, by_deed}
 use Rattle.law_flow.proofs.Giving.{in_joined, part_leads}
 use Rattle.law_flow.proofs.Pairs.{Alone, IsOwnDeed, Leaf, New, Part, never, first_made, less_was, own_derives, own_turned_side}
 use Rattle.law_flow.proofs.Taking.{led_before}
-use Rattle.law_flow.proofs.Within.{own_at, within_partition}
+use Rattle.law_flow.proofs.Within.{own_at}
 use Rattle.law_flow.proofs.Tables.{unjoined}
 use Rattle.law_flow.proofs.Turns.{IsOwnTurn, own_is, own_there, own_turned}
-use Rattle.law_flow.proofs.Guarding.{GoesOn, IsGivenTo, foreign_so, kept_on, next_partitioned, none_made_by, others_derive, others_leave_alone, others_turn, timeless_next}
+use Rattle.law_flow.proofs.Guarding.{GoesOn, IsGivenTo, kept_on, next_partitioned}
 
 -- ONE OF THE SIDE'S OWN
 
-pub undated : (ds : List (Option Deadline)) (o : Option (ℕ × Option Deadline)) (n : ℕ) → ((m : ℕ) (d : Option Deadline) → o ≡ Some (m, d) → d ≡ None) → entry (slice_get ds n) ≡ None →
+undated : (ds : List (Option Deadline)) (o : Option (ℕ × Option Deadline)) (n : ℕ) → ((m : ℕ) (d : Option Deadline) → o ≡ Some (m, d) → d ≡ None) → entry (slice_get ds n) ≡ None →
     entry (slice_get (deadlines_with ds o) n) ≡ None
 undated ds None n none old = old
 undated ds (Some (m, d)) n none old =
@@ -58,11 +59,11 @@ no_date P ec (deeds.Blocks sm None) own m e is = absurd (cc)
 no_date P ec (deeds.Blocks sm (Some until)) own m e is = absurd own.1
 no_date P ec other own m e is = absurd (cc)
 
-pub own_no_date : (k : KernelState) (S P : ℕ → Type 0) (ec : ℕ) (d : Deed) → IsOwnDeed ⊥ (false ≡ true) k S P d → (m : ℕ) (e : Option Deadline) → deadline_by ec d ≡ Some (m, e) → e ≡ None
-own_no_date k S P ec d (Alone own) m e is = no_date P ec d own m e is
-own_no_date k S P ec d (Part child cursor gives part) m e is = absurd (let none : None ≡ Some (m, e) = sym (ap (deadline_by ec) gives) ∙ is in cc)
-own_no_date k S P ec d (Leaf leaf takes mine) m e is = absurd (let none : None ≡ Some (m, e) = sym (ap (deadline_by ec) takes) ∙ is in cc)
-own_no_date k S P ec d (New call target made is creates of) m e dated = absurd (never creates)
+own_no_date : (creating : Type 0) (k : KernelState) (S P : ℕ → Type 0) (ec : ℕ) (d : Deed) → IsOwnDeed ⊥ creating k S P d → (m : ℕ) (e : Option Deadline) → deadline_by ec d ≡ Some (m, e) → e ≡ None
+own_no_date creating k S P ec d (Alone own) m e is = no_date P ec d own m e is
+own_no_date creating k S P ec d (Part child cursor gives part) m e is = absurd (let none : None ≡ Some (m, e) = sym (ap (deadline_by ec) gives) ∙ is in cc)
+own_no_date creating k S P ec d (Leaf leaf takes mine) m e is = absurd (let none : None ≡ Some (m, e) = sym (ap (deadline_by ec) takes) ∙ is in cc)
+own_no_date creating k S P ec d (New call target made makes creates of) m e is = absurd (let none : None ≡ Some (m, e) = sym (ap (deadline_by ec) makes) ∙ is in cc)
 
 pub own_goes_by : (timed : Type 0) (s : Scenario) (before : List ℕ) (S P : ℕ → Bool) (T : ℕ → Type 0) (cpu ec sc : ℕ) → IsPartitioned (run (boot s) before) (Of S) T (Of P) →
     own_turn S (run (boot s) before) cpu ≡ Some (ec, sc) →
@@ -155,49 +156,13 @@ own_derives_on timed s before S P T cpu ec sc revokes c own works within may =
     (ap (λ (l : KernelState). l.delegations) (own_turned S k cpu ec sc (own_is S k cpu ec sc own))) (within may)
 
 -- without a deadline it comes to none
-pub own_timeless : (s : Scenario) (before : List ℕ) (S P : ℕ → Bool) (T : ℕ → Type 0) (cpu ec sc : ℕ) (revokes : Bool) → IsPartitioned (run (boot s) before) (Of S) T (Of P) → IsTimeless (run (boot s) before) (Of P) →
-    own_turn S (run (boot s) before) cpu ≡ Some (ec, sc) → IsAtWork ⊥ (RevokesNothing (run (boot s) before) (Of S)) (revokes ≡ true) (false ≡ true) (run (boot s) before) ec → (revokes ≡ true → DerivesWithin (run (boot s) before) (Of S)) →
-    (n : ℕ) → P n ≡ true → deadline_of (after (run (boot s) before) cpu).times n ≡ None
-own_timeless s before S P T cpu ec sc revokes c timeless own works within n q =
-    let k = run (boot s) before in
-    let sound = reached_sound s before in
-    let its = own_is S k cpu ec sc own in
+joined_undated : (ds : List (Option Deadline)) (o : Option NewObject) (n : ℕ) → entry (slice_get ds n) ≡ None → entry (slice_get (joined ds (option_map no_deadline o)) n) ≡ None
+joined_undated ds None n old = old
+joined_undated ds (Some made) n old = more_at (λ (o : Option Deadline). o ≡ None) ds None n old (λ h. h)
+
+pub own_undated : (creating : Type 0) (S : ℕ → Bool) (k : KernelState) (A B : ℕ → Type 0) (cpu ec sc : ℕ) → own_turn S k cpu ≡ Some (ec, sc) → IsOwnDeed ⊥ creating k A B (deed k ec) → (n : ℕ) → deadline_of k.times n ≡ None →
+    deadline_of (after k cpu).times n ≡ None
+own_undated creating S k A B cpu ec sc own mine n old =
     let d = deed k ec in
-    let mine = own_at ⊥ (revokes ≡ true) (false ≡ true) S P T k cpu ec sc sound c own works within in
-    ap (λ (l : KernelState). deadline_of l.times n) (own_turned S k cpu ec sc its)
-    ∙ ap (λ (ds : List (Option Deadline)). entry (slice_get ds n)) (unjoined (deadlines_with k.times.deadlines (deadline_by ec d)) no_deadline (made_by d) (first_made ⊥ (false ≡ true) k (Of S) (Of P) d never mine))
-    ∙ undated k.times.deadlines (deadline_by ec d) n (own_no_date k (Of S) (Of P) ec d mine) (timeless.deadlines n q)
-
--- ALONG TURNS
-
-pub left_along : (revokes : Bool) (s : Scenario) (before turns : List ℕ) (S P : ℕ → Bool) (T : ℕ → Type 0) → IsPartitioned (run (boot s) before) (Of S) T (Of P) → IsTimeless (run (boot s) before) (Of P) →
-    (revokes ≡ true → DerivesWithin (run (boot s) before) (Of S)) → AreAtWorkTimeless (fixed revokes) S (run (boot s) before) turns → AreLeftAlone revokes S P (run (boot s) before) turns
-left_along revokes s before [] S P T c timeless within works = tt
-left_along revokes s before (cpu ∷ turns) S P T c timeless within works = (
-  others_leave_alone s before S P T cpu c timeless,
-  λ ec sc own gives. within_partition S P T k cpu ec sc (reached_sound s before) c own gives (works.0 ec sc own).state ((works.0 ec sc own).gives gives),
-  within,
-  by_own (own_turn S k cpu) refl (λ later untimed stays. subst (λ (l : KernelState). AreAtWorkTimeless (fixed revokes) S l turns → AreLeftAlone revokes S P l turns) next
-      (left_along revokes s (before ++ cpu ∷ []) turns S P (more k T cpu) (subst (λ (l : KernelState). IsPartitioned l (Of S) (more k T cpu) (Of P)) (sym next) later)
-      (subst (λ (l : KernelState). IsTimeless l (Of P)) (sym next) untimed) (subst (λ (l : KernelState). revokes ≡ true → DerivesWithin l (Of S)) (sym next) stays)) works.1),
-)
-  where
-    k : KernelState
-    k = run (boot s) before
-
-    next : run (boot s) (before ++ cpu ∷ []) ≡ after (run (boot s) before) cpu
-    next = run_append (boot s) before (cpu ∷ [])
-
-    by_own : (o : Option (ℕ × ℕ)) → own_turn S (run (boot s) before) cpu ≡ o →
-        (IsPartitioned (after (run (boot s) before) cpu) (Of S) (more (run (boot s) before) T cpu) (Of P) → IsTimeless (after (run (boot s) before) cpu) (Of P) → (revokes ≡ true → DerivesWithin (after (run (boot s) before) cpu) (Of S)) →
-        AreLeftAlone revokes S P (after (run (boot s) before) cpu) turns) →
-        AreLeftAlone revokes S P (after (run (boot s) before) cpu) turns
-    by_own None is later =
-        let t = others_turn s before S P T cpu c is (foreign_so k (Of P) cpu timeless) in
-        later (next_partitioned s before S P T cpu c t.on (none_made_by S k cpu is))
-        (timeless_next s before (Of P) cpu timeless (λ n p. ap (λ (o : Option (Option Deadline)). entry o) (t.same.deadlines n p) ∙ timeless.deadlines n p))
-        (λ yes. others_derive s before S P T cpu c is (within yes))
-    by_own (Some pair) is later =
-        later (own_goes_on ⊥ revokes s before S P T cpu pair.0 pair.1 c is (works.0 pair.0 pair.1 is) within)
-        (timeless_next s before (Of P) cpu timeless (own_timeless s before S P T cpu pair.0 pair.1 revokes c timeless is (works.0 pair.0 pair.1 is) within))
-        (own_derives_on ⊥ s before S P T cpu pair.0 pair.1 revokes c is (works.0 pair.0 pair.1 is) within)
+    ap (λ (l : KernelState). deadline_of l.times n) (own_turned S k cpu ec sc (own_is S k cpu ec sc own))
+    ∙ joined_undated (deadlines_with k.times.deadlines (deadline_by ec d)) (made_by d) n (undated k.times.deadlines (deadline_by ec d) n (own_no_date creating k A B ec d mine) old)

@@ -1,6 +1,6 @@
 -- What one of a side does in two states in which the side's part is the same: one deed with the side alone, or a part that is given within the side, or a leaf of its own that a revoke takes away, the same but for numbers.
 use Rattle.std.proofs.Common.{arith, ◌≡◌, ℕ, ◌+◌, ◌==◌, refl, sym, ap, ap₂, ◌∙◌, subst}
-use Rattle.std.specs.Prelude.{Bool, true, false, Contains, not, Option, Some, None}
+use Rattle.std.specs.Prelude.{Bool, true, false, Contains, IsSome, not, Option, Some, None}
 use Rattle.std.proofs.lemmas.Option.{same_Some}
 use Rattle.nova_range.specs.declared.range.Range.{Range}
 use Rattle.nova_model.specs.Deeds.{deed, deed_in, removes}
@@ -222,6 +222,17 @@ first_made timed creating k S P d none (Alone own) = made_none timed P d own
 first_made timed creating k S P d none (Part child cursor is part) = ap made_by is
 first_made timed creating k S P d none (Leaf leaf is mine) = ap made_by is
 first_made timed creating k S P d none (New call target made is creates of) = absurd (none creates)
+
+none_some : (o : Option NewObject) → o ≡ None → IsSome o → ⊥
+none_some None is some = absurd (cc)
+none_some (Some made) is some = absurd (cc)
+
+-- where one is made, the side creates
+pub made_creating : (timed creating : Type 0) (k : KernelState) (S P : ℕ → Type 0) (d : Deed) → IsOwnDeed timed creating k S P d → IsSome (made_by d) → creating
+made_creating timed creating k S P d (Alone own) some = absurd (none_some (made_by d) (made_none timed P d own) some)
+made_creating timed creating k S P d (Part child cursor is part) some = absurd (none_some (made_by d) (ap made_by is) some)
+made_creating timed creating k S P d (Leaf leaf is mine) some = absurd (none_some (made_by d) (ap made_by is) some)
+made_creating timed creating k S P d (New call target made is creates of) some = creates
 
 -- as much is made in both
 pub same_made : (timed creating : Type 0) (k l : KernelState) (S P : ℕ → Type 0) (d e : Deed) → AreOwn timed creating k l S P d e → made_by e ≡ made_by d

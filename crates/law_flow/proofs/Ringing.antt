@@ -1,5 +1,5 @@
 -- What comes by itself on a processor of the side's: the same in two states, but for what an alarm at another's semaphore finds there.
-use Rattle.std.proofs.Common.{◌≡◌, ℕ, zero, suc, List, [], ◌∷◌, refl, sym, ap, ap₂, ◌∙◌, subst, inl, inr}
+use Rattle.std.proofs.Common.{◌≡◌, ℕ, zero, suc, List, [], ◌∷◌, length, refl, sym, ap, ap₂, ◌∙◌, subst, inl, inr}
 use Rattle.std.specs.Prelude.{Bool, true, false, not, if◌then◌else◌, map, IsSome, slice_get, slice_set, option_and_then, Option, Some, None}
 use Rattle.nova_range.specs.declared.status.Status.{Status}
 use Rattle.nova_range.specs.Statuses.{status_code}
@@ -27,11 +27,12 @@ use Rattle.law_turns.proofs.Links.{place}
 use Rattle.law_turns.proofs.Setting.{get_other}
 use Rattle.law_isolation.specs.Sound.{IsSound}
 use Rattle.law_integrity.specs.Confined.{Of}
-use Rattle.law_flow.specs.Flow.{AreAlike, fronts, IsPartitioned, if_own, own_turn}
+use Rattle.law_flow.specs.Flow.{AreAlike, fronts, if_own, own_turn}
 use Rattle.law_flow.specs.Processors.{AreTimed, IsAtHome, rings_without, unfound, unnumbered_event}
 use Rattle.law_integrity.proofs.Passing.{due_in}
 use Rattle.law_flow.proofs.Others.{IsForeign}
-use Rattle.law_flow.proofs.Guarding.{alarm_was, others_turn}
+use Rattle.law_flow.proofs.Apart.{IsKeptApart, others_left}
+use Rattle.law_flow.proofs.Guarding.{alarm_was}
 use Rattle.law_flow.proofs.Seeing.{Both, semaphore_same}
 use Rattle.law_flow.proofs.Doing.{Shown, shown_contexts}
 use Rattle.law_flow.proofs.Tables.{change_same, deadlines_same, edits_alike, fronts_alike}
@@ -167,29 +168,30 @@ foreign_ring k P n out = record {
 }
 
 -- such an alarm leaves the side's part alone: whom it wakes is none of the side's
-pub rung_elsewhere : (s : Scenario) (before : List ℕ) (S P : ℕ → Bool) (T : ℕ → Type 0) (cpu n : ℕ) → IsPartitioned (run (boot s) before) (Of S) T (Of P) → due_on (run (boot s) before).times cpu ≡ Some (due.Alarm n) →
+pub rung_elsewhere : (creates : Bool) (s : Scenario) (before : List ℕ) (S P : ℕ → Bool) (T : ℕ → Type 0) (cpu n : ℕ) → IsKeptApart creates (run (boot s) before) S P T → due_on (run (boot s) before).times cpu ≡ Some (due.Alarm n) →
     P (alarm_sm (slice_get (run (boot s) before).times.alarms n)) ≡ false →
     AreAlike (run (boot s) before) (turned (run (boot s) before) cpu (passing (run (boot s) before) (Falls (due.Alarm n)))) (Of S) (Of P)
-rung_elsewhere s before S P T cpu n part is out =
+rung_elsewhere creates s before S P T cpu n part is out =
     let k = run (boot s) before in
-    subst (λ (l : KernelState). AreAlike k l (Of S) (Of P)) (due_turn k cpu (due.Alarm n) is) (others_turn s before S P T cpu part (nobody_own S k cpu (due_nobody k cpu (due.Alarm n) is)) foreign).same
+    subst (λ (l : KernelState). AreAlike k l (Of S) (Of P)) (due_turn k cpu (due.Alarm n) is)
+    (others_left creates s before S P T cpu part (nobody_own S k cpu (due_nobody k cpu (due.Alarm n) is)) foreign (λ yes none. ap (λ (l : KernelState). length l.objects) (due_turn k cpu (due.Alarm n) is))).same
   where
     foreign : (p : Passing) → IsPassing (run (boot s) before) cpu p → IsForeign (run (boot s) before) (Of P) (due_in p)
     foreign (Falls what) passes = subst (IsForeign (run (boot s) before) (Of P)) (sym is ∙ passes) (foreign_ring (run (boot s) before) P n out)
     foreign Ticks passes = record { alarms = λ i a none at mine. absurd (cc); deadlines = λ i none mine. absurd (cc) }
 
 -- and in both
-pub rung_alike : (a b : Scenario) (x y : List ℕ) (S P : ℕ → Bool) (C T U : ℕ → Type 0) (cpu n : ℕ) → IsPartitioned (run (boot a) x) (Of S) T (Of P) → IsPartitioned (run (boot b) y) (Of S) U (Of P) →
+pub rung_alike : (creates : Bool) (a b : Scenario) (x y : List ℕ) (S P : ℕ → Bool) (C T U : ℕ → Type 0) (cpu n : ℕ) → IsKeptApart creates (run (boot a) x) S P T → IsKeptApart creates (run (boot b) y) S P U →
     AreAlike (run (boot a) x) (run (boot b) y) (Of S) (Of P) → AreTimed (run (boot a) x) (run (boot b) y) (Of P) C → C cpu → due_on (run (boot a) x).times cpu ≡ Some (due.Alarm n) →
     due_on (run (boot b) y).times cpu ≡ Some (due.Alarm n) → P (alarm_sm (slice_get (run (boot a) x).times.alarms n)) ≡ false →
     AreAlike (turned (run (boot a) x) cpu (passing (run (boot a) x) (Falls (due.Alarm n)))) (turned (run (boot b) y) cpu (passing (run (boot b) y) (Falls (due.Alarm n)))) (Of S) (Of P)
-rung_alike a b x y S P C T U cpu n first second alike t c is its out =
+rung_alike creates a b x y S P C T U cpu n first second alike t c is its out =
     let k = run (boot a) x in
     let l = run (boot b) y in
     let m = turned k cpu (passing k (Falls (due.Alarm n))) in
     let other : P (alarm_sm (slice_get l.times.alarms n)) ≡ false = ap (λ (o : Option AlarmState). P (alarm_sm o)) (alarm_same k l (Of P) C t cpu n c is) ∙ out in
     alike_through m l (turned l cpu (passing l (Falls (due.Alarm n)))) (Of S) (Of P)
-    (alike_through m k l (Of S) (Of P) (alike_flipped k m (Of S) (Of P) (rung_elsewhere a x S P T cpu n first is out)) alike) (rung_elsewhere b y S P U cpu n second its other)
+    (alike_through m k l (Of S) (Of P) (alike_flipped k m (Of S) (Of P) (rung_elsewhere creates a x S P T cpu n first is out)) alike) (rung_elsewhere creates b y S P U cpu n second its other)
 
 -- WHAT ITS EVENT TELLS
 

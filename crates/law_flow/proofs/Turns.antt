@@ -33,7 +33,7 @@ use Rattle.law_isolation.proofs.Runs.{turn_sound}
 use Rattle.law_origins.specs.Giving.{Acts}
 use Rattle.law_origins.proofs.Actors.{is_able}
 use Rattle.law_integrity.specs.Confined.{Of}
-use Rattle.law_flow.specs.Flow.{AreAlike, AreCreatingAlone, AreDerivedAlike, AreGivingWithin, AreLeftAlone, AreRevokingWithin, DerivesWithin, AreAtWorkTimeless, GivesWithin, HasSameClock, IsSide, IsAtWork, IsCallAtWork, IsGivingWithin, RevokesNothing, Work, if_own, gain_for, own_bytes, own_deeds, own_turn, schedule, unnumbered}
+use Rattle.law_flow.specs.Flow.{AreAlike, AreCreatingAlone, AreDerivedAlike, AreGivingWithin, AreLeftAlone, AreRevokingWithin, DerivesWithin, AreAtWorkTimeless, GivesWithin, HasSameClock, IsSide, IsAtWork, IsCallAtWork, IsGivingWithin, RevokesNothing, Allowed, if_own, gain_for, own_bytes, own_deeds, own_turn, schedule, unnumbered}
 use Rattle.law_flow.proofs.Seeing.{Both, context_same, reach_same}
 use Rattle.law_flow.proofs.Creating.{AreMaking}
 use Rattle.law_flow.proofs.Doing.{by_deed, memory_same}
@@ -288,10 +288,10 @@ abbrev pub deed_for : KernelState → Option (ℕ × ℕ) → Option OwnDeed
 deed_for k o = option_map (λ (p : ℕ × ℕ). (p.0, unnumbered (deed k p.0))) o
 
 -- the second goes on by others' turns alone
-others_alone : (work : Work) (S P : ℕ → Bool) (us : List ℕ) (k l : KernelState) → AreTwins k l S P → AreLeftAlone work.revokes S P l us → [] ≡ schedule S l us → EndSame k (run l us) S P [] (own_deeds S l us) [] (own_bytes S l us)
-others_alone work S P [] k l t left same = record { alike = t.alike; deeds = refl; bytes = refl }
-others_alone work S P (cpu ∷ us) k l t left same =
-    by_own (own_turn S l cpu) refl same (λ next rest. others_alone work S P us k (after l cpu) next left.3 rest)
+others_alone : (allowed : Allowed) (S P : ℕ → Bool) (us : List ℕ) (k l : KernelState) → AreTwins k l S P → AreLeftAlone allowed.revokes S P l us → [] ≡ schedule S l us → EndSame k (run l us) S P [] (own_deeds S l us) [] (own_bytes S l us)
+others_alone allowed S P [] k l t left same = record { alike = t.alike; deeds = refl; bytes = refl }
+others_alone allowed S P (cpu ∷ us) k l t left same =
+    by_own (own_turn S l cpu) refl same (λ next rest. others_alone allowed S P us k (after l cpu) next left.3 rest)
   where
     by_own : (o : Option (ℕ × ℕ)) → own_turn S l cpu ≡ o → [] ≡ in_front o (schedule S (after l cpu) us) →
         (AreTwins k (after l cpu) S P → [] ≡ schedule S (after l cpu) us → EndSame k (run (after l cpu) us) S P [] (own_deeds S (after l cpu) us) [] (own_bytes S (after l cpu) us)) →
@@ -305,22 +305,22 @@ abbrev pub Ends : KernelState → List ℕ → KernelState → List ℕ → (ℕ
 Ends k ts l us S P = EndSame (run k ts) (run l us) S P (own_deeds S k ts) (own_deeds S l us) (own_bytes S k ts) (own_bytes S l us)
 
 -- the second goes on until its next own turn, which is as the first's
-matched : (work : Work) (S P : ℕ → Bool) (us : List ℕ) (k l : KernelState) (cpu : ℕ) (ts : List ℕ) (p : ℕ × ℕ) → own_turn S k cpu ≡ Some p → IsAtWork ⊥ (RevokesNothing k (Of S)) (work.revokes ≡ true) (work.creates ≡ true) k p.0 → GivesWithin S k cpu →
-    (work.revokes ≡ true → DerivesWithin k (Of S)) → (work.revokes ≡ true → AreDerivedAlike k l (Of S)) → (work.creates ≡ true → AreCreatingAlone k l (Of S) (Of P)) → AreTwins k l S P → AreLeftAlone work.revokes S P l us → p ∷ schedule S (after k cpu) ts ≡ schedule S l us →
-    ((vs : List ℕ) (m : KernelState) → (work.revokes ≡ true → AreDerivedAlike (after k cpu) m (Of S)) → (work.creates ≡ true → AreCreatingAlone (after k cpu) m (Of S) (Of P)) → AreTwins (after k cpu) m S P → AreLeftAlone work.revokes S P m vs → schedule S (after k cpu) ts ≡ schedule S m vs → Ends (after k cpu) ts m vs S P) →
+matched : (allowed : Allowed) (S P : ℕ → Bool) (us : List ℕ) (k l : KernelState) (cpu : ℕ) (ts : List ℕ) (p : ℕ × ℕ) → own_turn S k cpu ≡ Some p → IsAtWork ⊥ (RevokesNothing k (Of S)) (allowed.revokes ≡ true) (allowed.creates ≡ true) k p.0 → GivesWithin S k cpu →
+    (allowed.revokes ≡ true → DerivesWithin k (Of S)) → (allowed.revokes ≡ true → AreDerivedAlike k l (Of S)) → (allowed.creates ≡ true → AreCreatingAlone k l (Of S) (Of P)) → AreTwins k l S P → AreLeftAlone allowed.revokes S P l us → p ∷ schedule S (after k cpu) ts ≡ schedule S l us →
+    ((vs : List ℕ) (m : KernelState) → (allowed.revokes ≡ true → AreDerivedAlike (after k cpu) m (Of S)) → (allowed.creates ≡ true → AreCreatingAlone (after k cpu) m (Of S) (Of P)) → AreTwins (after k cpu) m S P → AreLeftAlone allowed.revokes S P m vs → schedule S (after k cpu) ts ≡ schedule S m vs → Ends (after k cpu) ts m vs S P) →
     EndSame (run (after k cpu) ts) (run l us) S P ((p.0, unnumbered (deed k p.0)) ∷ own_deeds S (after k cpu) ts) (own_deeds S l us) (gain_for k cpu (Some p) ++ own_bytes S (after k cpu) ts) (own_bytes S l us)
-matched work S P [] k l cpu ts p own works within derives derived numbers t left same later = absurd (cc)
-matched work S P (other ∷ us) k l cpu ts p own works within derives derived numbers t left same later =
-    by_own (own_turn S l other) refl same (λ alike further next rest. matched work S P us k (after l other) cpu ts p own works within derives alike further next left.3 rest later)
+matched allowed S P [] k l cpu ts p own works within derives derived numbers t left same later = absurd (cc)
+matched allowed S P (other ∷ us) k l cpu ts p own works within derives derived numbers t left same later =
+    by_own (own_turn S l other) refl same (λ alike further next rest. matched allowed S P us k (after l other) cpu ts p own works within derives alike further next left.3 rest later)
   where
     timed : own_turn S l other ≡ Some p → IsAtWork (HasSameClock k l p.0) (AreGivingWithin k l (Of S) p.0) (AreRevokingWithin k l (Of S)) (AreCreatingAlone k l (Of S) (Of P)) k p.0
     timed also =
         let its = own_is S k cpu p.0 p.1 own in
-        working_both (RevokesNothing k (Of S)) (work.revokes ≡ true) (work.creates ≡ true) k l S P p.0 t (own_there S k (Of P) cpu p.0 p.1 t.first t.side its) its.of works (within p.0 p.1 own) (left.1 p.0 p.1 also)
+        working_both (RevokesNothing k (Of S)) (allowed.revokes ≡ true) (allowed.creates ≡ true) k l S P p.0 t (own_there S k (Of P) cpu p.0 p.1 t.first t.side its) its.of works (within p.0 p.1 own) (left.1 p.0 p.1 also)
         (λ yes. record { alike = derived yes; first = derives yes; second = left.2 yes }) numbers
 
     by_own : (o : Option (ℕ × ℕ)) → own_turn S l other ≡ o → p ∷ schedule S (after k cpu) ts ≡ in_front o (schedule S (after l other) us) →
-        ((work.revokes ≡ true → AreDerivedAlike k (after l other) (Of S)) → (work.creates ≡ true → AreCreatingAlone k (after l other) (Of S) (Of P)) → AreTwins k (after l other) S P → p ∷ schedule S (after k cpu) ts ≡ schedule S (after l other) us →
+        ((allowed.revokes ≡ true → AreDerivedAlike k (after l other) (Of S)) → (allowed.creates ≡ true → AreCreatingAlone k (after l other) (Of S) (Of P)) → AreTwins k (after l other) S P → p ∷ schedule S (after k cpu) ts ≡ schedule S (after l other) us →
         EndSame (run (after k cpu) ts) (run (after l other) us) S P ((p.0, unnumbered (deed k p.0)) ∷ own_deeds S (after k cpu) ts) (own_deeds S (after l other) us) (gain_for k cpu (Some p) ++ own_bytes S (after k cpu) ts) (own_bytes S (after l other) us)) →
         EndSame (run (after k cpu) ts) (run (after l other) us) S P ((p.0, unnumbered (deed k p.0)) ∷ own_deeds S (after k cpu) ts)
         (in_front (deed_for l (own_turn S l other)) (own_deeds S (after l other) us)) (gain_for k cpu (Some p) ++ own_bytes S (after k cpu) ts) (gain_for l other (own_turn S l other) ++ own_bytes S (after l other) us)
@@ -348,14 +348,14 @@ matched work S P (other ∷ us) k l cpu ts p own works within derives derived nu
               ∙ ap₂ (λ (xs ys : List LogByte). xs ++ ys) (own_gains k l S P cpu other p.0 p.1 t own also (timed also)) ended.bytes;
         }
 
-pub runs_alike : (work : Work) (S P : ℕ → Bool) (ts us : List ℕ) (k l : KernelState) → (work.revokes ≡ true → AreDerivedAlike k l (Of S)) → (work.creates ≡ true → AreCreatingAlone k l (Of S) (Of P)) → AreTwins k l S P → AreLeftAlone work.revokes S P k ts → AreLeftAlone work.revokes S P l us →
-    AreAtWorkTimeless work S k ts → schedule S k ts ≡ schedule S l us → Ends k ts l us S P
-runs_alike work S P [] us k l derived numbers t left right works same = others_alone work S P us k l t right same
-runs_alike work S P (cpu ∷ ts) us k l derived numbers t left right works same =
-    by_own (own_turn S k cpu) refl same (λ j vs m alike further next alone also works_ again. runs_alike work S P ts vs j m alike further next alone also works_ again)
+pub runs_alike : (allowed : Allowed) (S P : ℕ → Bool) (ts us : List ℕ) (k l : KernelState) → (allowed.revokes ≡ true → AreDerivedAlike k l (Of S)) → (allowed.creates ≡ true → AreCreatingAlone k l (Of S) (Of P)) → AreTwins k l S P → AreLeftAlone allowed.revokes S P k ts → AreLeftAlone allowed.revokes S P l us →
+    AreAtWorkTimeless allowed S k ts → schedule S k ts ≡ schedule S l us → Ends k ts l us S P
+runs_alike allowed S P [] us k l derived numbers t left right works same = others_alone allowed S P us k l t right same
+runs_alike allowed S P (cpu ∷ ts) us k l derived numbers t left right works same =
+    by_own (own_turn S k cpu) refl same (λ j vs m alike further next alone also works_ again. runs_alike allowed S P ts vs j m alike further next alone also works_ again)
   where
     by_own : (o : Option (ℕ × ℕ)) → own_turn S k cpu ≡ o → in_front o (schedule S (after k cpu) ts) ≡ schedule S l us →
-        ((j : KernelState) (vs : List ℕ) (m : KernelState) → (work.revokes ≡ true → AreDerivedAlike j m (Of S)) → (work.creates ≡ true → AreCreatingAlone j m (Of S) (Of P)) → AreTwins j m S P → AreLeftAlone work.revokes S P j ts → AreLeftAlone work.revokes S P m vs → AreAtWorkTimeless work S j ts →
+        ((j : KernelState) (vs : List ℕ) (m : KernelState) → (allowed.revokes ≡ true → AreDerivedAlike j m (Of S)) → (allowed.creates ≡ true → AreCreatingAlone j m (Of S) (Of P)) → AreTwins j m S P → AreLeftAlone allowed.revokes S P j ts → AreLeftAlone allowed.revokes S P m vs → AreAtWorkTimeless allowed S j ts →
         schedule S j ts ≡ schedule S m vs → Ends j ts m vs S P) →
         EndSame (run (after k cpu) ts) (run l us) S P (in_front (deed_for k (own_turn S k cpu)) (own_deeds S (after k cpu) ts)) (own_deeds S l us) (gain_for k cpu (own_turn S k cpu) ++ own_bytes S (after k cpu) ts) (own_bytes S l us)
     by_own None is rest later =
@@ -368,5 +368,5 @@ runs_alike work S P (cpu ∷ ts) us k l derived numbers t left right works same 
         }) left.3 right works.1 rest in
         record { alike = ended.alike; deeds = ended.deeds ∙ sym (ap (λ (o : Option (ℕ × ℕ)). in_front (deed_for k o) (own_deeds S (after k cpu) ts)) is); bytes = ended.bytes ∙ sym (ap (λ (o : Option (ℕ × ℕ)). gain_for k cpu o ++ own_bytes S (after k cpu) ts) is) }
     by_own (Some p) is rest later =
-        let ended = matched work S P us k l cpu ts p is (works.0 p.0 p.1 is) left.1 left.2 derived numbers t right rest (λ vs m alike further next alone also. later (after k cpu) vs m alike further next left.3 alone works.1 also) in
+        let ended = matched allowed S P us k l cpu ts p is (works.0 p.0 p.1 is) left.1 left.2 derived numbers t right rest (λ vs m alike further next alone also. later (after k cpu) vs m alike further next left.3 alone works.1 also) in
         record { alike = ended.alike; deeds = ended.deeds ∙ sym (ap (λ (o : Option (ℕ × ℕ)). in_front (deed_for k o) (own_deeds S (after k cpu) ts)) is); bytes = ended.bytes ∙ sym (ap (λ (o : Option (ℕ × ℕ)). gain_for k cpu o ++ own_bytes S (after k cpu) ts) is) }

@@ -9,7 +9,9 @@ use Rattle.nova_model.specs.Runs.{after, run}
 use Rattle.nova_model.specs.Edges.{is_giving}
 use Rattle.nova_model.specs.State.{KernelState, context, pd_of}
 use Rattle.nova_model.specs.declared.new_object.NewObject.{NewObject}
-use Rattle.law_forest.specs.Effects.{joined}
+use Rattle.nova_model.specs.declared.times.Due.{Due}
+use Rattle.law_forest.specs.Effects.{Passing, joined}
+use Rattle.law_forest.specs.Turns.{IsPassing}
 use Rattle.law_turns.proofs.Setting.{joined_length}
 use Rattle.law_turns.specs.Giving.{gives_no_first}
 use Rattle.law_turns.proofs.Serving.{actor_of}
@@ -19,12 +21,17 @@ use Rattle.law_origins.proofs.Actors.{is_able}
 use Rattle.law_origins.proofs.Lists.{run_append}
 use Rattle.law_integrity.specs.Confined.{Of}
 use Rattle.law_integrity.proofs.Homes.{AreHomed, home_there, reached_homed}
-use Rattle.law_flow.specs.Flow.{AreAtWorkTimeless, AreLeftAlone, DerivesWithin, IsGivingWithin, IsLeftAlone, IsPartitioned, IsTimeless, RevokesNothing, Work, domains, existing, if_own, own_turn}
-use Rattle.law_flow.proofs.Existing.{AreLevel, in_domains, none_domains, of_domains, whole_alike, whole_side}
-use Rattle.law_flow.proofs.Guarding.{others_leave_alone}
+use Rattle.law_integrity.proofs.Passing.{due_in}
+use Rattle.law_flow.specs.Flow.{IsGivingWithin, IsLeftAlone, IsPartitioned, RevokesNothing, domains, existing, if_own, own_turn}
+use Rattle.law_flow.proofs.Existing.{AreLevel, in_domains, none_domains, of_domains, of_existing, whole_alike, whole_side}
+use Rattle.law_flow.proofs.Guarding.{others_turn}
 use Rattle.law_flow.proofs.Numbers.{grows}
+use Rattle.law_flow.proofs.Others.{IsForeign}
 use Rattle.law_flow.proofs.Turns.{IsOwnTurn, own_acts, own_is}
 use Rattle.law_flow.proofs.Within.{within_partition}
+
+pub homed_next : (s : Scenario) (before : List ℕ) (cpu : ℕ) → AreHomed (after (run (boot s) before) cpu)
+homed_next s before cpu = subst AreHomed (run_append (boot s) before (cpu ∷ [])) (reached_homed s (before ++ cpu ∷ []))
 
 -- a turn after which as many objects are there makes none
 pub unmade : (k : KernelState) (cpu : ℕ) → length (after k cpu).objects ≡ length k.objects → (after k cpu).objects ≡ k.objects
@@ -35,28 +42,29 @@ unmade k cpu same = by_made (grows k cpu).made (grows k cpu).objects
     by_made (Some made) is =
         let more : length (after k cpu).objects ≡ length k.objects + 1 = ap (λ (os : List Object). length os) is ∙ joined_length k.objects (object_of made) in absurd (omega (arith, same, more))
 
+-- a turn of a boot state's run that leaves the objects as they are
+pub level_after : (s : Scenario) (before : List ℕ) (cpu : ℕ) → (after (run (boot s) before) cpu).objects ≡ (run (boot s) before).objects → AreLevel (run (boot s) before) (after (run (boot s) before) cpu)
+level_after s before cpu same = record {
+  first = reached_sound s before;
+  second = turn_sound (run (boot s) before) cpu (reached_sound s before);
+  homed = reached_homed s before;
+  homed_too = homed_next s before cpu;
+  objects = same;
+}
+
+-- what is due is none of what is there
+pub foreign_there : (k : KernelState) (P : ℕ → Bool) (what : Option Due) → IsForeign k (Of P) what → IsForeign k (Of (existing k P)) what
+foreign_there k P what f = record { alarms = λ n a is at p. f.alarms n a is at (of_existing k P a.alarm.sm p); deadlines = λ n is p. f.deadlines n is (of_existing k P n p) }
+
 pub left_whole : (s : Scenario) (before : List ℕ) (S P : ℕ → Bool) (T : ℕ → Type 0) (cpu : ℕ) →
-    IsPartitioned (run (boot s) before) (Of (domains (run (boot s) before) S)) T (Of (existing (run (boot s) before) P)) → IsTimeless (run (boot s) before) (Of (existing (run (boot s) before) P)) →
+    IsPartitioned (run (boot s) before) (Of (domains (run (boot s) before) S)) T (Of (existing (run (boot s) before) P)) →
+    ((p : Passing) → IsPassing (run (boot s) before) cpu p → IsForeign (run (boot s) before) (Of (existing (run (boot s) before) P)) (due_in p)) →
     own_turn S (run (boot s) before) cpu ≡ None → length (after (run (boot s) before) cpu).objects ≡ length (run (boot s) before).objects → IsLeftAlone (run (boot s) before) (Of S) (Of P) cpu
-left_whole s before S P T cpu c timeless none same = record { same = whole_alike k (after k cpu) S P level left.same; side = whole_side k (after k cpu) S P level left.side }
-  where
-    k : KernelState
-    k = run (boot s) before
-
-    next : run (boot s) (before ++ cpu ∷ []) ≡ after (run (boot s) before) cpu
-    next = run_append (boot s) before (cpu ∷ [])
-
-    level : AreLevel (run (boot s) before) (after (run (boot s) before) cpu)
-    level = record {
-      first = reached_sound s before;
-      second = turn_sound k cpu (reached_sound s before);
-      homed = reached_homed s before;
-      homed_too = subst AreHomed next (reached_homed s (before ++ cpu ∷ []));
-      objects = unmade k cpu same;
-    }
-
-    left : IsLeftAlone (run (boot s) before) (Of (domains (run (boot s) before) S)) (Of (existing (run (boot s) before) P)) cpu
-    left = others_leave_alone s before (domains k S) (existing k P) T cpu c timeless (none_domains k S cpu none)
+left_whole s before S P T cpu c foreign none same =
+    let k = run (boot s) before in
+    let level = level_after s before cpu (unmade k cpu same) in
+    let left = others_turn s before (domains k S) (existing k P) T cpu c (none_domains k S cpu none) foreign in
+    record { same = whole_alike k (after k cpu) S P level left.same; side = whole_side k (after k cpu) S P level left.on.side }
 
 -- ONE OF THE SIDE'S OWN
 
@@ -75,7 +83,7 @@ own_domains S k cpu ec sc sound own =
     mine : domains k S (pd_of k its.candidate.actor) ≡ true
     mine = ap (λ (n : ℕ). domains k S (pd_of k n)) its.actor ∙ in_domains k S (pd_of k ec) its.of there
 
-gives_whole : (s : Scenario) (before : List ℕ) (S P : ℕ → Bool) (T : ℕ → Type 0) (cpu ec sc : ℕ) →
+pub gives_whole : (s : Scenario) (before : List ℕ) (S P : ℕ → Bool) (T : ℕ → Type 0) (cpu ec sc : ℕ) →
     IsPartitioned (run (boot s) before) (Of (domains (run (boot s) before) S)) T (Of (existing (run (boot s) before) P)) → own_turn S (run (boot s) before) cpu ≡ Some (ec, sc) →
     is_giving (context (run (boot s) before) ec).state ≡ true → gives_no_first (context (run (boot s) before) ec).state ≡ true → RevokesNothing (run (boot s) before) (Of S) →
     IsGivingWithin (run (boot s) before) (Of S) ec
@@ -94,27 +102,3 @@ gives_whole s before S P T cpu ec sc c own gives works none = record {
     within =
         within_partition (domains k S) (existing k P) T k cpu ec sc (reached_sound s before) c (own_domains S k cpu ec sc (reached_sound s before) own) gives works
         (λ n range its state mine. none n range its state (of_domains k S (pd_of k n) mine))
-
--- ALONG TURNS
-
--- what is asked before each
-pub record IsKeptApart (revokes : Bool) (k : KernelState) (S T P : ℕ → Bool) (cpu : ℕ) : Type 0 where
-  pub part : IsPartitioned k (Of (domains k S)) (Of T) (Of (existing k P))
-  pub timeless : IsTimeless k (Of (existing k P))
-  pub derives : revokes ≡ true → DerivesWithin k (Of S)
-  pub others : own_turn S k cpu ≡ None → length (after k cpu).objects ≡ length k.objects
-
-abbrev pub AreKeptApart : Bool → (ℕ → Bool) → (ℕ → Bool) → (ℕ → Bool) → KernelState → List ℕ → Type 0
-AreKeptApart revokes S T P k [] = Unit {0}
-AreKeptApart revokes S T P k (cpu ∷ turns) = IsKeptApart revokes k S T P cpu × AreKeptApart revokes S T P (after k cpu) turns
-
-pub apart_along : (work : Work) (s : Scenario) (before turns : List ℕ) (S T P : ℕ → Bool) → AreKeptApart work.revokes S T P (run (boot s) before) turns → AreAtWorkTimeless work S (run (boot s) before) turns →
-    AreLeftAlone work.revokes S P (run (boot s) before) turns
-apart_along work s before [] S T P apart works = tt
-apart_along work s before (cpu ∷ turns) S T P apart works = (
-  λ none. left_whole s before S P (Of T) cpu apart.0.part apart.0.timeless none (apart.0.others none),
-  λ ec sc own gives. gives_whole s before S P (Of T) cpu ec sc apart.0.part own gives (works.0 ec sc own).state ((works.0 ec sc own).gives gives),
-  apart.0.derives,
-  subst (λ (l : KernelState). AreKeptApart work.revokes S T P l turns → AreAtWorkTimeless work S l turns → AreLeftAlone work.revokes S P l turns) (run_append (boot s) before (cpu ∷ []))
-      (apart_along work s (before ++ cpu ∷ []) turns S T P) apart.1 works.1,
-)

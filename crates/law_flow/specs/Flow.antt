@@ -255,24 +255,24 @@ AreLeftAlone revokes S P k (cpu ∷ turns) =
     (own_turn S k cpu ≡ None → IsLeftAlone k (Of S) (Of P) cpu) × GivesWithin S k cpu × (revokes ≡ true → DerivesWithin k (Of S)) × AreLeftAlone revokes S P (after k cpu) turns
 
 -- what a side may do along turns beside what each at work does
-pub record Work : Type 0 where
+pub record Allowed : Type 0 where
   pub revokes : Bool
   pub creates : Bool
 
 -- one that makes no object
-abbrev pub fixed : Bool → Work
+abbrev pub fixed : Bool → Allowed
 fixed revokes = record { revokes = revokes; creates = false }
 
--- In each of the side's turns it is at work, with deadlines or without (or without them): it gives only while none of it is amid a revoke, and revokes and creates only where the first says that it may.
-abbrev pub AreAtWork : Work → (ℕ → Bool) → KernelState → List ℕ → Type 0
-AreAtWork work S k [] = Unit {0}
-AreAtWork work S k (cpu ∷ turns) =
-    ((ec sc : ℕ) → own_turn S k cpu ≡ Some (ec, sc) → IsAtWork (Unit {0}) (RevokesNothing k (Of S)) (work.revokes ≡ true) (work.creates ≡ true) k ec) × AreAtWork work S (after k cpu) turns
+-- In each of the side's turns it is at work, with deadlines, and below without: it gives only while none of it is amid a revoke, and revokes and creates only where it is allowed.
+abbrev pub AreAtWork : Allowed → (ℕ → Bool) → KernelState → List ℕ → Type 0
+AreAtWork allowed S k [] = Unit {0}
+AreAtWork allowed S k (cpu ∷ turns) =
+    ((ec sc : ℕ) → own_turn S k cpu ≡ Some (ec, sc) → IsAtWork (Unit {0}) (RevokesNothing k (Of S)) (allowed.revokes ≡ true) (allowed.creates ≡ true) k ec) × AreAtWork allowed S (after k cpu) turns
 
-abbrev pub AreAtWorkTimeless : Work → (ℕ → Bool) → KernelState → List ℕ → Type 0
-AreAtWorkTimeless work S k [] = Unit {0}
-AreAtWorkTimeless work S k (cpu ∷ turns) =
-    ((ec sc : ℕ) → own_turn S k cpu ≡ Some (ec, sc) → IsAtWork ⊥ (RevokesNothing k (Of S)) (work.revokes ≡ true) (work.creates ≡ true) k ec) × AreAtWorkTimeless work S (after k cpu) turns
+abbrev pub AreAtWorkTimeless : Allowed → (ℕ → Bool) → KernelState → List ℕ → Type 0
+AreAtWorkTimeless allowed S k [] = Unit {0}
+AreAtWorkTimeless allowed S k (cpu ∷ turns) =
+    ((ec sc : ℕ) → own_turn S k cpu ≡ Some (ec, sc) → IsAtWork ⊥ (RevokesNothing k (Of S)) (allowed.revokes ≡ true) (allowed.creates ≡ true) k ec) × AreAtWorkTimeless allowed S (after k cpu) turns
 
 -- Two runs, of these turns from these states, come to the same part of the side's, by the same deeds and bytes of it.
 pub record AreAlikeAlong (k l : KernelState) (turns others : List ℕ) (S P : ℕ → Bool) : Type 0 where

@@ -54,6 +54,15 @@ abbrev pub AreAtHome : (ℕ → Bool) → (ℕ → Bool) → (ℕ → Bool) → 
 AreAtHome S P C k [] = Unit {0}
 AreAtHome S P C k (cpu ∷ turns) = IsAtHome k (Of S) (Of P) (Of C) × AreAtHome S P C (after k cpu) turns
 
+-- its execution contexts are on these processors
+abbrev pub AreOn : KernelState → (ℕ → Type 0) → (ℕ → Type 0) → Type 0
+AreOn k S C = (n pd cpu : ℕ) (kind : EcKind) (event : ℕ) → slice_get k.objects n ≡ Some (Ec pd cpu kind event) → S pd → C cpu
+
+-- they are before each of these turns, and after the last: it makes none elsewhere
+abbrev pub StayOn : (ℕ → Bool) → (ℕ → Bool) → KernelState → List ℕ → Type 0
+StayOn S C k [] = AreOn k (Of S) (Of C)
+StayOn S C k (cpu ∷ turns) = AreOn k (Of S) (Of C) × StayOn S C (after k cpu) turns
+
 -- THE SAME TIMES
 
 -- of a scheduling context what is left of its quantum, and its stamp

@@ -9,13 +9,15 @@ ghost use Rattle.nova_model.specs.Boot.{Scenario, boot};
 ghost use Rattle.nova_model.specs.Deeds.{deed};
 ghost use Rattle.nova_model.specs.Runs.{after, run};
 ghost use Rattle.nova_model.specs.State.{KernelState, context};
-ghost use Rattle.nova_model.specs.declared.deed.Deed.TheVariants.{Gives};
+ghost use Rattle.nova_calls.specs.declared.numbers.TheConstants.{CREATE_SM};
+ghost use Rattle.nova_model.specs.declared.deed.Deed.TheVariants.{Gives, Makes};
+ghost use Rattle.nova_model.specs.declared.new_object.NewObject.TheVariants.{Sm};
 ghost use Rattle.law_isolation.specs.Sound.{IsSound};
 ghost use Rattle.law_integrity.specs.Confined.{Of};
-ghost use Rattle.law_flow.specs.Examples.{first_domains, first_objects, first_processors, given_page, other_domains, two_homes};
-ghost use Rattle.law_flow.specs.Flow.{AreAlike, AreAlikeAlong, AreAtWork, AreAtWorkTimeless, AreCreatingAlone, AreDerivedAlike, AreGivingWithin, AreLeftAlone, AreRevokingWithin, DerivesWithin, HasSameClock, IsAtWork, IsCreatingAlone, IsGivingWithin, IsLeftAlone, IsPartitioned, IsSide, IsTimeless, OthersMakeNothing, Work, domains, existing, fixed, own_turn, schedule, unnumbered};
+ghost use Rattle.law_flow.specs.Examples.{first_domains, first_objects, first_processors, given_page, lone_maker, made_domains, maker_domains, maker_objects, maker_turns, other_domains, two_homes};
+ghost use Rattle.law_flow.specs.Flow.{AreAlike, AreAlikeAlong, AreAtWork, AreAtWorkTimeless, AreCreatingAlone, AreDerivedAlike, AreGivingWithin, AreLeftAlone, AreRevokingWithin, DerivesWithin, HasSameClock, IsAtWork, IsCreatingAlone, IsGivingWithin, IsLeftAlone, IsPartitioned, IsSide, IsTimeless, OthersMakeNothing, Allowed, domains, existing, fixed, own_turn, schedule, unnumbered};
 ghost use Rattle.law_turns.specs.Revoking.{is_revoking};
-ghost use Rattle.law_flow.specs.Processors.{AreAlikeAtHome, AreAtHome, AreTimed, IsDivided};
+ghost use Rattle.law_flow.specs.Processors.{AreAlikeAtHome, AreAtHome, AreTimed, IsDivided, StayOn};
 
 /// Take two sound states in which a side's part is the same, and a turn of the same execution context of the side in
 /// both, paid by the same scheduling context. It does the same in both, but for numbers of ranges, and leaves states in
@@ -24,8 +26,8 @@ ghost use Rattle.law_flow.specs.Processors.{AreAlikeAtHome, AreAtHome, AreTimed,
 /// both. Where it gives items, it does so within the side, and in neither state a revoke is in the way. Where it revokes,
 /// in neither state anything that others hold was made of what it holds, and its ranges were made of each other alike and
 /// in one order: a revoke takes the newest first, by their numbers. They stay so. Where it creates, both states have as
-/// many objects, and all numbers that no object has yet are the side's: they stay so, too. It makes no protection domain
-/// with a first range.
+/// many objects and processors, and all numbers that no object has yet are the side's, and so is what schedules its
+/// execution contexts: they stay so, too. It makes no protection domain with a first range.
 pub fn step_consistency()
     ensures decides { (k l : KernelState) (S P : ℕ → Bool) (cpu ec sc : ℕ) → IsSound k → IsSound l
         → IsSide k (Of S) (Of P) → AreAlike k l (Of S) (Of P)
@@ -74,12 +76,12 @@ pub fn local_respect()
         → (revokes ≡ true → DerivesWithin (run (boot scenario) before) (Of S))
         → AreAtWorkTimeless (fixed revokes) S (run (boot scenario) before) turns
         → AreLeftAlone revokes S P (run (boot scenario) before) turns }
-    ensures along { (work : Work) (scenario : Scenario) (before turns : List ℕ) (S T P : ℕ → Bool)
+    ensures along { (allowed : Allowed) (scenario : Scenario) (before turns : List ℕ) (S T P : ℕ → Bool)
         → IsPartitioned (run (boot scenario) before) (Of (domains (run (boot scenario) before) S)) (Of T) (Of (existing (run (boot scenario) before) P))
         → IsTimeless (run (boot scenario) before) (Of P) → IsCreatingAlone (run (boot scenario) before) (Of S) (Of P)
-        → (work.revokes ≡ true → DerivesWithin (run (boot scenario) before) (Of S)) → OthersMakeNothing S (run (boot scenario) before) turns
-        → AreAtWorkTimeless work S (run (boot scenario) before) turns
-        → AreLeftAlone work.revokes S P (run (boot scenario) before) turns }
+        → (allowed.revokes ≡ true → DerivesWithin (run (boot scenario) before) (Of S)) → OthersMakeNothing S (run (boot scenario) before) turns
+        → AreAtWorkTimeless allowed S (run (boot scenario) before) turns
+        → AreLeftAlone allowed.revokes S P (run (boot scenario) before) turns }
 {}
 
 /// Take two runs, from sound states in which a side's part is the same, that have the same turns of the side, in which
@@ -89,10 +91,10 @@ pub fn local_respect()
 /// what leaves it alone makes none. At their ends its part is the same, and so was all that it did, however many turns of
 /// others came, when they came, and whatever they did.
 pub fn unwinding()
-    ensures { (work : Work) (k l : KernelState) (turns others : List ℕ) (S P : ℕ → Bool) → IsSound k → IsSound l
+    ensures { (allowed : Allowed) (k l : KernelState) (turns others : List ℕ) (S P : ℕ → Bool) → IsSound k → IsSound l
         → IsSide k (Of S) (Of P) → AreAlike k l (Of S) (Of P)
-        → (work.revokes ≡ true → AreDerivedAlike k l (Of S)) → (work.creates ≡ true → AreCreatingAlone k l (Of S) (Of P))
-        → AreLeftAlone work.revokes S P k turns → AreLeftAlone work.revokes S P l others → AreAtWorkTimeless work S k turns
+        → (allowed.revokes ≡ true → AreDerivedAlike k l (Of S)) → (allowed.creates ≡ true → AreCreatingAlone k l (Of S) (Of P))
+        → AreLeftAlone allowed.revokes S P k turns → AreLeftAlone allowed.revokes S P l others → AreAtWorkTimeless allowed S k turns
         → schedule S k turns ≡ schedule S l others
         → AreAlikeAlong k l turns others S P }
 {}
@@ -103,7 +105,7 @@ pub fn unwinding()
 /// that others hold was made of what it holds, and its ranges were made of each other alike and in one order. If the two
 /// runs have the same turns of the side, by who acts and who pays, its part is the same at their ends, and all that it
 /// did is: whatever others are and do in each, and whenever their turns come. If it may create, and creates alone, nobody
-/// else makes an object in either run, and it is at work in both; the condition at the places is of what is there.
+/// else makes an object in either run; the condition at the places is of what is there.
 pub fn noninterference()
     ensures working { (revokes : Bool) (a b : Scenario) (before since turns others : List ℕ) (S T U P : ℕ → Bool)
         → IsPartitioned (run (boot a) before) (Of S) (Of T) (Of P) → IsTimeless (run (boot a) before) (Of P)
@@ -113,13 +115,13 @@ pub fn noninterference()
         → AreAtWorkTimeless (fixed revokes) S (run (boot a) before) turns
         → schedule S (run (boot a) before) turns ≡ schedule S (run (boot b) since) others
         → AreAlikeAlong (run (boot a) before) (run (boot b) since) turns others S P }
-    ensures creating { (work : Work) (a b : Scenario) (before since turns others : List ℕ) (S T U P : ℕ → Bool)
+    ensures creating { (allowed : Allowed) (a b : Scenario) (before since turns others : List ℕ) (S T U P : ℕ → Bool)
         → IsPartitioned (run (boot a) before) (Of (domains (run (boot a) before) S)) (Of T) (Of (existing (run (boot a) before) P)) → IsTimeless (run (boot a) before) (Of P)
         → IsPartitioned (run (boot b) since) (Of (domains (run (boot b) since) S)) (Of U) (Of (existing (run (boot b) since) P)) → IsTimeless (run (boot b) since) (Of P)
         → AreAlike (run (boot a) before) (run (boot b) since) (Of S) (Of P)
-        → (work.revokes ≡ true → AreRevokingWithin (run (boot a) before) (run (boot b) since) (Of S)) → AreCreatingAlone (run (boot a) before) (run (boot b) since) (Of S) (Of P)
+        → (allowed.revokes ≡ true → AreRevokingWithin (run (boot a) before) (run (boot b) since) (Of S)) → AreCreatingAlone (run (boot a) before) (run (boot b) since) (Of S) (Of P)
         → OthersMakeNothing S (run (boot a) before) turns → OthersMakeNothing S (run (boot b) since) others
-        → AreAtWorkTimeless work S (run (boot a) before) turns → AreAtWorkTimeless work S (run (boot b) since) others
+        → AreAtWorkTimeless allowed S (run (boot a) before) turns
         → schedule S (run (boot a) before) turns ≡ schedule S (run (boot b) since) others
         → AreAlikeAlong (run (boot a) before) (run (boot b) since) turns others S P }
 {}
@@ -132,8 +134,10 @@ pub fn noninterference()
 /// both runs its part is the same, with clocks, deadlines, alarms and quanta, and so are all that it did and all events
 /// on its processors: whatever others are and do in each. On one processor the number of its turns is all. Alarms of its
 /// processors may ring at others' semaphores: of such a ring neither whom it wakes nor its status is said, of others all.
+/// If it may create, and creates alone, nobody else makes an object in either run; the condition at the places is of what
+/// is there, and it has the processors with all that it makes.
 pub fn noninterference_at_home()
-    ensures { (revokes : Bool) (a b : Scenario) (before since turns others : List ℕ) (S T U P C : ℕ → Bool)
+    ensures working { (revokes : Bool) (a b : Scenario) (before since turns others : List ℕ) (S T U P C : ℕ → Bool)
         → IsPartitioned (run (boot a) before) (Of S) (Of T) (Of P) → IsPartitioned (run (boot b) since) (Of S) (Of U) (Of P)
         → AreAtHome S P C (run (boot a) before) turns → AreAtHome S P C (run (boot b) since) others
         → AreAlike (run (boot a) before) (run (boot b) since) (Of S) (Of P)
@@ -142,19 +146,41 @@ pub fn noninterference_at_home()
         → AreAtWork (fixed revokes) S (run (boot a) before) turns
         → filter C turns ≡ filter C others
         → AreAlikeAtHome (run (boot a) before) (run (boot b) since) turns others S P C }
+    ensures creating { (allowed : Allowed) (a b : Scenario) (before since turns others : List ℕ) (S T U P C : ℕ → Bool)
+        → IsPartitioned (run (boot a) before) (Of (domains (run (boot a) before) S)) (Of T) (Of (existing (run (boot a) before) P))
+        → IsPartitioned (run (boot b) since) (Of (domains (run (boot b) since) S)) (Of U) (Of (existing (run (boot b) since) P))
+        → AreAtHome S P C (run (boot a) before) turns → AreAtHome S P C (run (boot b) since) others
+        → AreAlike (run (boot a) before) (run (boot b) since) (Of S) (Of P)
+        → AreTimed (run (boot a) before) (run (boot b) since) (Of P) (Of C)
+        → (allowed.revokes ≡ true → AreRevokingWithin (run (boot a) before) (run (boot b) since) (Of S)) → AreCreatingAlone (run (boot a) before) (run (boot b) since) (Of S) (Of P)
+        → OthersMakeNothing S (run (boot a) before) turns → OthersMakeNothing S (run (boot b) since) others
+        → AreAtWork allowed S (run (boot a) before) turns
+        → filter C turns ≡ filter C others
+        → AreAlikeAtHome (run (boot a) before) (run (boot b) since) turns others S P C }
 {}
 
 /// A side whose processors are its own, where the others hold no right to create, is the same whatever the others do. Its premises are
 /// conditions of the two states, but for being at work: the processors are divided between the side and the others, which never come to the
-/// side's.
+/// side's. If it may create, and creates alone, in the first run its execution contexts stay on its processors: it makes none elsewhere. That the
+/// others make nothing follows.
 pub fn noninterference_on_divided_processors()
-    ensures { (revokes : Bool) (a b : Scenario) (before since turns others : List ℕ) (S T U P C : ℕ → Bool)
+    ensures working { (revokes : Bool) (a b : Scenario) (before since turns others : List ℕ) (S T U P C : ℕ → Bool)
         → IsPartitioned (run (boot a) before) (Of S) (Of T) (Of P) → IsPartitioned (run (boot b) since) (Of S) (Of U) (Of P)
         → IsDivided (run (boot a) before) (Of S) (Of T) (Of P) (Of C) → IsDivided (run (boot b) since) (Of S) (Of U) (Of P) (Of C)
         → AreAlike (run (boot a) before) (run (boot b) since) (Of S) (Of P)
         → AreTimed (run (boot a) before) (run (boot b) since) (Of P) (Of C)
         → (revokes ≡ true → AreRevokingWithin (run (boot a) before) (run (boot b) since) (Of S))
         → AreAtWork (fixed revokes) S (run (boot a) before) turns
+        → filter C turns ≡ filter C others
+        → AreAlikeAtHome (run (boot a) before) (run (boot b) since) turns others S P C }
+    ensures creating { (allowed : Allowed) (a b : Scenario) (before since turns others : List ℕ) (S T U P C : ℕ → Bool)
+        → IsPartitioned (run (boot a) before) (Of (domains (run (boot a) before) S)) (Of T) (Of (existing (run (boot a) before) P))
+        → IsPartitioned (run (boot b) since) (Of (domains (run (boot b) since) S)) (Of U) (Of (existing (run (boot b) since) P))
+        → IsDivided (run (boot a) before) (Of S) (Of T) (Of P) (Of C) → IsDivided (run (boot b) since) (Of S) (Of U) (Of P) (Of C)
+        → AreAlike (run (boot a) before) (run (boot b) since) (Of S) (Of P)
+        → AreTimed (run (boot a) before) (run (boot b) since) (Of P) (Of C)
+        → (allowed.revokes ≡ true → AreRevokingWithin (run (boot a) before) (run (boot b) since) (Of S)) → AreCreatingAlone (run (boot a) before) (run (boot b) since) (Of S) (Of P)
+        → StayOn S C (run (boot a) before) turns → AreAtWork allowed S (run (boot a) before) turns
         → filter C turns ≡ filter C others
         → AreAlikeAtHome (run (boot a) before) (run (boot b) since) turns others S P C }
 {}
@@ -173,4 +199,21 @@ pub fn a_run_comes_to_the_premises()
     ensures works { AreAtWorkTimeless (fixed true) first_domains (run (boot two_homes) (replicate 66 0)) (replicate 18 0) }
     ensures revokes { is_revoking (context (run (boot two_homes) (replicate 73 0)) 5).state ≡ true }
     ensures gives { deed (run (boot two_homes) (replicate 82 0)) 5 ≡ Gives given_page 2 }
+{}
+
+/// A run of 22 turns from a boot state meets the premises of noninterference of a side that creates. A root makes a protection domain with a thread on
+/// another processor, and revokes its capabilities to them. Then the root is partitioned off, creates alone, without alarms and deadlines; the
+/// processors are divided; and nothing that others hold was made of what it holds. In the 10 turns that follow it is at work, and makes a semaphore and a
+/// thread on its processor; between them the other's thread begins, and dies. Nobody else makes an object.
+pub fn a_run_comes_to_a_side_that_creates()
+    ensures partitioned { IsPartitioned (run (boot lone_maker) (replicate 22 0)) (Of (domains (run (boot lone_maker) (replicate 22 0)) maker_domains)) (Of made_domains) (Of (existing (run (boot lone_maker) (replicate 22 0)) maker_objects)) }
+    ensures timeless { IsTimeless (run (boot lone_maker) (replicate 22 0)) (Of maker_objects) }
+    ensures alone { AreCreatingAlone (run (boot lone_maker) (replicate 22 0)) (run (boot lone_maker) (replicate 22 0)) (Of maker_domains) (Of maker_objects) }
+    ensures divided { IsDivided (run (boot lone_maker) (replicate 22 0)) (Of maker_domains) (Of made_domains) (Of maker_objects) (Of first_processors) }
+    ensures revoking { AreRevokingWithin (run (boot lone_maker) (replicate 22 0)) (run (boot lone_maker) (replicate 22 0)) (Of maker_domains) }
+    ensures nothing { OthersMakeNothing maker_domains (run (boot lone_maker) (replicate 22 0)) maker_turns }
+    ensures stays { StayOn maker_domains first_processors (run (boot lone_maker) (replicate 22 0)) maker_turns }
+    ensures works { AreAtWorkTimeless (record { revokes = true; creates = true }) maker_domains (run (boot lone_maker) (replicate 22 0)) maker_turns }
+    ensures makes { deed (run (boot lone_maker) (replicate 25 0)) 1 ≡ Makes CREATE_SM 32 (Sm 33) }
+    ensures more { length (run (run (boot lone_maker) (replicate 22 0)) maker_turns).objects ≡ 8 }
 {}

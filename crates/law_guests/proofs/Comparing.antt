@@ -62,8 +62,8 @@ one_guest c a b begins = record {
 }
 
 pub guests_home : ViewFacts → ComparingFacts → (revokes : Bool) (a b : Scenario) (before since turns others : List ℕ) (S P C : ℕ → Bool) (T U : ℕ → Type 0) (g : ℕ) →
-    IsPartitioned (run (boot a) before) (Of S) T (Of P) → GoesHome (run (boot a) before) S P C T turns → AreAtWork (fixed revokes) S (run (boot a) before) turns → GoesHome (run (boot b) since) S P C U others →
-    AreAlike (run (boot a) before) (run (boot b) since) (Of S) (Of P) → AreTogether revokes (run (boot a) before) (run (boot b) since) S P C → filter C turns ≡ filter C others →
+    IsPartitioned (run (boot a) before) (Of S) T (Of P) → GoesHome false (run (boot a) before) S P C T turns → AreAtWork (fixed revokes) S (run (boot a) before) turns → GoesHome false (run (boot b) since) S P C U others →
+    AreAlike (run (boot a) before) (run (boot b) since) (Of S) (Of P) → AreTogether (fixed revokes) (run (boot a) before) (run (boot b) since) S P C → filter C turns ≡ filter C others →
     IsVirtual (run (boot a) before) g → S (pd_of (run (boot a) before) g) ≡ true → AreOneGuest (watched a before g turns) (watched b since g others)
 guests_home f c revokes a b before since turns others S P C T U g part goes works also alike timed same virtual mine =
     let k = run (boot a) before in

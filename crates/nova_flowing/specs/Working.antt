@@ -39,7 +39,7 @@ kind_of other = None
 abbrev pub kind_at : KernelState → ℕ → Option LapseKind
 kind_at k ec = option_or (kind_in (context k ec).state) (kind_of (call_of (context k ec).regs))
 
--- what `AreAtWork` asks of one turn of the side
+-- what `AreAtWork` asks of one turn of a side that makes nothing, and revokes only where the first says that it may
 abbrev pub IsWorking : Bool → (ℕ → Bool) → KernelState → ℕ → Type 0
 IsWorking revokes S k ec = IsAtWork (Unit {0}) (RevokesNothing k (Of S)) (revokes ≡ true) (false ≡ true) k ec
 

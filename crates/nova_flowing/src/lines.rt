@@ -322,9 +322,11 @@ fn write_flow_at(
 }
 
 /// Writes of each side of `labels`, the labels of the domains of `kernel` by number, whether the premises of noninterference on divided processors hold
-/// in its present state, of which `list` has all derivations: `own` with the side's processors, and the first of `lapses` by which it is no longer at work, where a revoke is one only if others hold what was made of what
-/// the side holds, of which the first is named, and from which turn on the side revokes without being one; or the first that fails, by the field of the law's conditions, with the capability, object, execution context or source of which it does; or `waits` with an execution context of no side that is blocked, where only a deadline
-/// of such may be against it. The only refusal is of memory.
+/// in its present state, of which `list` has all derivations. Where they hold: `own` with the side's processors; the first of `lapses` by which it is no
+/// longer at work, where a revoke counts only if others hold what was made of what the side holds, of which the first is named; and, where it doesn't
+/// count, from which turn on the side revokes. Else the first that fails, by the field of the law's conditions, with the capability, object, execution
+/// context or source of which it does; or `waits` with an execution context of no side that is blocked, where only a deadline of such may be against it.
+/// The only refusal is of memory.
 pub fn write_flows(
     alloc: Global,
     out: &mut String,

@@ -1,5 +1,6 @@
 use Rattle.std.proofs.Common.{refl}
 use Rattle.law_integrity.specs.Confined.{Of}
+use Rattle.law_flow.proofs.Pairs.{never}
 use Rattle.law_guests.proofs.Comparing.{guests_home}
 use Rattle.law_guests.proofs.a_guest_at_home_is_one_guest.Goals as goal
 
@@ -21,5 +22,5 @@ returns c = λ revokes a b before since turns others S T U P C g first second ho
       alone = c.two_guests_are_compared.ensures.alone;
       same = c.renamings_are_there.ensures.same;
     }) revokes a b before since turns others S P C (Of T) (Of U) g first
-    (record { reached = record { scenario = a; before = before; is = refl; part = first }; home = home }) works
-    (record { reached = record { scenario = b; before = since; is = refl; part = second }; home = abroad }) alike (record { timed = timed; within = takes }) same virtual mine
+    (record { reached = record { scenario = a; before = before; is = refl; part = first }; home = home; nothing = λ h. absurd (never h) }) works
+    (record { reached = record { scenario = b; before = since; is = refl; part = second }; home = abroad; nothing = λ h. absurd (never h) }) alike (record { timed = timed; within = takes; alone = λ h. absurd (never h) }) same virtual mine

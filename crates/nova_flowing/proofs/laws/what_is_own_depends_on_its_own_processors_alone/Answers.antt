@@ -8,6 +8,6 @@ use Rattle.nova_flowing.proofs.laws.what_is_own_depends_on_its_own_processors_al
 
 pub returns : goal.returns
 returns c = λ revokes scenario before turns others S T P C partitioned divided within works same.
-    c.noninterference_on_divided_processors.ensures revokes scenario scenario before before turns others S T T P C partitioned partitioned divided divided
+    c.noninterference_on_divided_processors.ensures.working revokes scenario scenario before before turns others S T T P C partitioned partitioned divided divided
     (alike_itself (run (boot scenario) before) (Of S) (Of P)) (timed_itself (run (boot scenario) before) (Of P) (Of C))
     (λ yes. revoking_itself (run (boot scenario) before) (Of S) (reached_sound scenario before) (within yes)) works same
