@@ -25,7 +25,7 @@ use Rattle.law_flow.proofs.Leaving.{some_there}
 use Rattle.law_flow.proofs.Others.{side_left, time_leaves, timeless_foreign}
 use Rattle.law_flow.proofs.Turns.{AreTwins, alike_itself, own_is, own_side, own_there, working_both}
 use Rattle.law_service.specs.Service.{AreAdmitted, AreServed, ByComputing, ByGift, ByNobody, ByStranger, Entry, IsAdmitted, IsServedBy, entry_by, entry_in}
-use Rattle.law_service.proofs.Computing.{computes}
+use Rattle.law_service.proofs.Computing.{computing}
 use Rattle.law_service.proofs.Deriving.{admitted_derives, own_derives_too}
 use Rattle.law_service.proofs.Giving.{gives}
 use Rattle.law_service.proofs.Strangers.{strangers}
@@ -61,19 +61,19 @@ passing_alone s before S P cpu side there nobody timeless = elim (comes (run (bo
         }
 
 pub nobody_served : (s : Scenario) (before : List ℕ) (S P : ℕ → Bool) (cpu : ℕ) → IsSide (run (boot s) before) (Of S) (Of P) → ((n : ℕ) → P n ≡ true → IsSome (slice_get (run (boot s) before).objects n)) →
-    next_to_act (run (boot s) before) cpu ≡ None → IsTimeless (run (boot s) before) (Of P) → IsServedBy (run (boot s) before) (Of S) (Of P) cpu (entry_in P (run (boot s) before) cpu)
+    next_to_act (run (boot s) before) cpu ≡ None → IsTimeless (run (boot s) before) (Of P) → IsServedBy (run (boot s) before) (Of S) (Of P) cpu (entry_in S P (run (boot s) before) cpu)
 nobody_served s before S P cpu side there nobody timeless =
-    subst (λ (o : Option Candidate). IsServedBy (run (boot s) before) (Of S) (Of P) cpu (option_and_then (entry_by P (run (boot s) before)) o)) (sym nobody)
+    subst (λ (o : Option Candidate). IsServedBy (run (boot s) before) (Of S) (Of P) cpu (option_and_then (entry_by S P (run (boot s) before)) o)) (sym nobody)
     (passing_alone s before S P cpu side there nobody timeless)
 
 -- ADMITTED TURNS
 
 admits : (s : Scenario) (before : List ℕ) (S P : ℕ → Bool) (cpu : ℕ) → IsSide (run (boot s) before) (Of S) (Of P) → ((n : ℕ) → P n ≡ true → IsSome (slice_get (run (boot s) before).objects n)) →
-    own_turn S (run (boot s) before) cpu ≡ None → IsAdmitted (run (boot s) before) S P cpu → IsServedBy (run (boot s) before) (Of S) (Of P) cpu (entry_in P (run (boot s) before) cpu)
+    own_turn S (run (boot s) before) cpu ≡ None → IsAdmitted (run (boot s) before) S P cpu → IsServedBy (run (boot s) before) (Of S) (Of P) cpu (entry_in S P (run (boot s) before) cpu)
 admits s before S P cpu side there none (ByStranger ec acts_ stranger) = strangers s before S P cpu ec side there acts_ stranger
 admits s before S P cpu side there none (ByGift e is some) =
     subst (IsServedBy (run (boot s) before) (Of S) (Of P) cpu) (sym is) (gives (run (boot s) before) S P cpu e (reached_sound s before) side is some)
-admits s before S P cpu side there none (ByComputing ec acts_ steps walled) = computes (run (boot s) before) S P cpu ec side none acts_ steps walled
+admits s before S P cpu side there none (ByComputing ec acts_ steps walled) = computing (run (boot s) before) S P cpu ec side none acts_ steps walled
 admits s before S P cpu side there none (ByNobody nobody timeless) = nobody_served s before S P cpu side there nobody timeless
 
 served_side : (k : KernelState) (S P : ℕ → Type 0) (cpu : ℕ) (o : Option Entry) → IsServedBy k S P cpu o → IsSide (after k cpu) S P
@@ -105,7 +105,7 @@ served_along revokes s before (cpu ∷ turns) S P side there within admitted wor
         (IsSide (after (run (boot s) before) cpu) (Of S) (Of P) → (revokes ≡ true → DerivesWithin (after (run (boot s) before) cpu) (Of S)) → AreServed revokes S P (after (run (boot s) before) cpu) turns) →
         AreServed revokes S P (after (run (boot s) before) cpu) turns
     by_own None is later =
-        later (served_side (run (boot s) before) (Of S) (Of P) cpu (entry_in P (run (boot s) before) cpu) (admits s before S P cpu side there is (admitted.0 is)))
+        later (served_side (run (boot s) before) (Of S) (Of P) cpu (entry_in S P (run (boot s) before) cpu) (admits s before S P cpu side there is (admitted.0 is)))
         (λ yes. admitted_derives s before S P cpu (within yes) (admitted.0 is))
     by_own (Some p) is later =
         let k = run (boot s) before in

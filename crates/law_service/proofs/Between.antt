@@ -18,7 +18,6 @@ use Rattle.nova_model.specs.Times.{next_entry}
 use Rattle.nova_model.specs.Turn.{charged, turn}
 use Rattle.nova_model.specs.declared.context.Mark.{Mark}
 use Rattle.nova_model.specs.declared.context.State.TheVariants.{Fresh, Granting}
-use Rattle.nova_model.specs.declared.deed.Deed.TheVariants.{Steps}
 use Rattle.nova_model.specs.declared.delegation.Derivation.{Derivation}
 use Rattle.nova_utcb.specs.Messages.{copied, exited}
 use Rattle.law_forest.proofs.Members.{IsIn, all_at, in_from_contains}
@@ -27,7 +26,7 @@ use Rattle.law_integrity.specs.Confined.{Of}
 use Rattle.law_flow.specs.Flow.{AreAtWorkTimeless, own_turn, fixed}
 use Rattle.law_flow.proofs.Looking.{no}
 use Rattle.law_service.specs.Examples.{tenant_domain, tenant_objects}
-use Rattle.law_service.specs.Service.{AreAdmitted, ByComputing, ByGift, ByStranger, Enters, IsStrange, IsStranger, Own, course, entry_in, returned}
+use Rattle.law_service.specs.Service.{AreAdmitted, ByComputing, ByGift, ByStranger, Enters, IsStrange, IsStranger, Own, computes, course, entry_in, returned}
 use Rattle.law_service.proofs.Meeting.{first, first_within, first_works, none_own, none_within, none_works, objects_there, own_first, own_second, own_works, range_there, ranges_there, reply, second, second_within, second_works, third, walled_by}
 
 abbrev beyond : KernelState
@@ -56,7 +55,7 @@ acts_beyond : Acts beyond 0 4
 unfolding one instr_of call_of choice deed input_of next_entry next_to_act charged turn
 acts_beyond = refl
 
-steps_beyond : deed beyond 4 ≡ Steps
+steps_beyond : computes (deed beyond 4) ≡ true
 unfolding one instr_of call_of choice deed input_of next_entry charged turn
 steps_beyond = refl
 
@@ -64,7 +63,7 @@ own_later : own_turn tenant_domain later 0 ≡ None
 unfolding one instr_of call_of choice deed input_of next_entry next_to_act charged turn
 own_later = refl
 
-enters_later : entry_in tenant_objects later 0 ≡ Some reply
+enters_later : entry_in tenant_domain tenant_objects later 0 ≡ Some reply
 unfolding one instr_of call_of choice deed input_of next_entry next_to_act charged turn copied exited returned
 enters_later = refl
 
@@ -134,7 +133,7 @@ stranger = record {
       (all_at Strange ranges_there d all_strange (listed d there) (its ∙ other_domain));
   serves = λ caller mark is. absurd (let both : ◌≡◌ {A = Option (ℕ × Mark)} None (Some (caller, mark)) = sym other_caller ∙ is in cc);
   firsts = λ domain is s. absurd (let both : Fresh ≡ Granting (Some domain) = sym other_state ∙ is in cc);
-  lines = λ d a there s c held.
+  lines = λ revokes d a there s c held.
       all_at Below ranges_there d all_below (listed d there) s a (subst (λ (l : List Derivation). Contains (line l d) a) other_ranges c) (held ∙ other_domain);
   memory = walled_by third 11 other_ranges;
   payer = λ sc is p. no (subst (λ (n : ℕ). tenant_objects n ≡ true) (sym (same_Some 13 sc (sym other_payer ∙ is))) p);

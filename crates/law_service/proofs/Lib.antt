@@ -1,6 +1,9 @@
 pub mod Words
+pub mod Ranges
 pub mod Entering
+pub mod Gifts
 pub mod Giving
+pub mod Joining
 pub mod Computing
 pub mod Strangers
 pub mod Deriving
@@ -8,3 +11,5 @@ pub mod Admitting
 pub mod Along
 pub mod Meeting
 pub mod Between
+pub mod Paging
+pub mod Pages

@@ -24,7 +24,6 @@ use Rattle.nova_model.specs.Turn.{charged, turn}
 use Rattle.nova_model.specs.declared.context.Mark.{Mark}
 use Rattle.nova_model.specs.declared.context.State.{State}
 use Rattle.nova_model.specs.declared.context.State.TheVariants.{Dead, Exiting, Fresh, Helping, Parked}
-use Rattle.nova_model.specs.declared.deed.Deed.TheVariants.{Steps}
 use Rattle.nova_model.specs.declared.delegation.Derivation.{Derivation}
 use Rattle.nova_utcb.specs.Messages.{copied, exited}
 use Rattle.law_forest.proofs.Members.{IsIn, all_at, in_from_contains}
@@ -39,7 +38,7 @@ use Rattle.law_flow.proofs.Deriving.{revoking_itself, within_by}
 use Rattle.law_flow.proofs.Looking.{AllAt, IsCalm, at_all, calm_edge, calm_wait, entry_at, led, looked_up, no}
 use Rattle.law_turns.specs.Links.{caller_at as caller_of, state_at as state_of}
 use Rattle.law_service.specs.Examples.{served_tenants, tenant_domain, tenant_objects}
-use Rattle.law_service.specs.Service.{AreAdmitted, ByComputing, ByGift, Enters, Entry, IsWalled, Own, Return, course, entry_in, returned}
+use Rattle.law_service.specs.Service.{AreAdmitted, ByComputing, ByGift, Enters, Entry, IsWalled, Own, Return, computes, course, entry_in, returned}
 
 -- WHAT THE STATES ARE
 
@@ -68,10 +67,10 @@ ranges_there =
     ∷ range_there 10 0 Obj 36 0 1 8 None ∷ range_there 11 8 Obj 64 0 4 6 (Some 8) ∷ range_there 12 0 Obj 37 0 1 9 None ∷ range_there 13 9 Obj 65 0 4 7 (Some 9) ∷ range_there 14 0 Obj 38 0 7 10 None
     ∷ range_there 15 0 Obj 39 0 7 11 None ∷ range_there 16 0 Obj 40 0 1 12 None ∷ range_there 17 0 Obj 41 0 1 13 None ∷ []
 
-abbrev states_there : List (Option State)
+abbrev pub states_there : List (Option State)
 states_there = None ∷ Some Dead ∷ None ∷ None ∷ Some Parked ∷ Some Parked ∷ None ∷ None ∷ None ∷ None ∷ Some Fresh ∷ Some Fresh ∷ None ∷ None ∷ []
 
-abbrev nothing : {T : Type 0} → List (Option T)
+abbrev pub nothing : {T : Type 0} → List (Option T)
 nothing = None ∷ None ∷ None ∷ None ∷ None ∷ None ∷ None ∷ None ∷ None ∷ None ∷ None ∷ None ∷ None ∷ None ∷ []
 
 objects_are : first.objects ≡ objects_there
@@ -133,7 +132,7 @@ third_acts : Acts third 0 4
 unfolding one instr_of call_of choice deed input_of next_entry next_to_act charged turn
 third_acts = refl
 
-third_steps : deed third 4 ≡ Steps
+third_steps : computes (deed third 4) ≡ true
 unfolding one instr_of call_of choice deed input_of next_entry charged turn
 third_steps = refl
 
@@ -141,7 +140,7 @@ third_steps = refl
 abbrev pub reply : Entry
 reply = record { gift = Some (Return 4 10 no_words); actor = Some 4; payer = None }
 
-fourth_enters : entry_in tenant_objects fourth 0 ≡ Some reply
+fourth_enters : entry_in tenant_domain tenant_objects fourth 0 ≡ Some reply
 unfolding one instr_of call_of choice deed input_of next_entry next_to_act charged turn copied exited returned
 fourth_enters = refl
 
@@ -172,31 +171,42 @@ all_calm = (tt, (tt, (tt, (tt, (tt, (tt, (tt, (tt, (tt, (tt, (tt, (tt, (tt, (tt,
 none_at : {T : Type 0} (n : ℕ) → entry (slice_get (nothing {T = T}) n) ≡ None
 none_at {T} n = entry_at (λ (m : ℕ) (o : Option T). ◌≡◌ {A = Option T} o None) (nothing {T = T}) (λ m. refl) (refl, (refl, (refl, (refl, (refl, (refl, (refl, (refl, (refl, (refl, (refl, (refl, (refl, (refl, tt)))))))))))))) n
 
-calm : (n : ℕ) → IsCalm (state_in first.contexts n)
-calm n =
-    subst IsCalm (sym (looked_up state_of refl first.contexts n ∙ ap (λ (l : List (Option State)). entry (slice_get l n)) states_are))
+-- a state with these tables
+pub record HasTables (k : KernelState) : Type 0 where
+  pub objects : k.objects ≡ objects_there
+  pub ranges : k.delegations.list ≡ ranges_there
+  pub states : map state_of k.contexts ≡ states_there
+  pub callers : map caller_of k.contexts ≡ nothing {T = ℕ × Mark}
+  pub semaphores : k.semaphores ≡ nothing {T = Semaphore}
+
+calm : (k : KernelState) → HasTables k → (n : ℕ) → IsCalm (state_in k.contexts n)
+calm k t n =
+    subst IsCalm (sym (looked_up state_of refl k.contexts n ∙ ap (λ (l : List (Option State)). entry (slice_get l n)) t.states))
     (entry_at (λ (m : ℕ) (o : Option State). IsCalm o) states_there (λ m. tt) all_calm n)
 
-fits : (n : ℕ) (o : Object) → slice_get first.objects n ≡ Some o → Fits n o
-fits n o is = at_all Fits objects_there all_fit n o (sym (ap (λ (l : List Object). slice_get l n) objects_are) ∙ is)
+fits : (k : KernelState) → HasTables k → (n : ℕ) (o : Object) → slice_get k.objects n ≡ Some o → Fits n o
+fits k t n o is = at_all Fits objects_there all_fit n o (sym (ap (λ (l : List Object). slice_get l n) t.objects) ∙ is)
 
-held : (d : Derivation) → Contains first.delegations.list d → IsHeld d
-held d there = all_at IsHeld ranges_there d all_held (in_from_contains ranges_there d (subst (λ (l : List Derivation). Contains l d) ranges_are there))
+held : (k : KernelState) → HasTables k → (d : Derivation) → Contains k.delegations.list d → IsHeld d
+held k t d there = all_at IsHeld ranges_there d all_held (in_from_contains ranges_there d (subst (λ (l : List Derivation). Contains l d) t.ranges there))
 
-pub side : IsSide first (Of tenant_domain) (Of tenant_objects)
-side = record {
-  holds = λ d there s kind. (held d there s).1;
-  handlers = λ n handler mtd ip p is. fits n (Pt handler mtd ip) is p;
-  edges = λ n handler p is. absurd (calm_edge (state_in first.contexts n) handler (calm n) is);
+pub side_by : (k : KernelState) → HasTables k → IsSide k (Of tenant_domain) (Of tenant_objects)
+side_by k t = record {
+  holds = λ d there s kind. (held k t d there s).1;
+  handlers = λ n handler mtd ip p is. fits k t n (Pt handler mtd ip) is p;
+  edges = λ n handler p is. absurd (calm_edge (state_in k.contexts n) handler (calm k t n) is);
   callers = λ n caller mark p is.
-      absurd (let none : caller_in first.contexts n ≡ None = looked_up caller_of refl first.contexts n ∙ ap (λ (l : List (Option (ℕ × Mark))). entry (slice_get l n)) callers_are ∙ none_at n in
+      absurd (let none : caller_in k.contexts n ≡ None = looked_up caller_of refl k.contexts n ∙ ap (λ (l : List (Option (ℕ × Mark))). entry (slice_get l n)) t.callers ∙ none_at n in
       let both : ◌≡◌ {A = Option (ℕ × Mark)} None (Some (caller, mark)) = sym none ∙ is in cc);
   queues = λ sm n p is.
-      absurd (let none : waits first.semaphores sm n ≡ false = ap (λ (l : List (Option Semaphore)). waits l sm n) semaphores_are ∙ ap (λ (o : Option Semaphore). has (semaphore_in o).waiting n) (none_at sm) in
+      absurd (let none : waits k.semaphores sm n ≡ false = ap (λ (l : List (Option Semaphore)). waits l sm n) t.semaphores ∙ ap (λ (o : Option Semaphore). has (semaphore_in o).waiting n) (none_at sm) in
       let both : ◌≡◌ {A = Bool} false true = sym none ∙ is in cc);
-  blocked = λ n sm p is. absurd (calm_wait (state_in first.contexts n) sm (calm n) is);
-  members = λ n pd cpu kind event is s. fits n (Ec pd cpu kind event) is s;
+  blocked = λ n sm p is. absurd (calm_wait (state_in k.contexts n) sm (calm k t n) is);
+  members = λ n pd cpu kind event is s. fits k t n (Ec pd cpu kind event) is s;
 }
+
+pub side : IsSide first (Of tenant_domain) (Of tenant_objects)
+side = side_by first (record { objects = objects_are; ranges = ranges_are; states = states_are; callers = callers_are; semaphores = semaphores_are })
 
 -- nothing that others hold is made of what the tenant holds
 pub revoking : AreRevokingWithin first first (Of tenant_domain)
@@ -204,7 +214,7 @@ revoking = revoking_itself first (Of tenant_domain) (reached_sound served_tenant
 
 -- AT WORK
 
-works_as : (k : KernelState) (s : State) → (context k 10).state ≡ s → gives_no_first s ≡ true → is_giving s ≡ false → is_revoking s ≡ false → ((handler : ℕ) → s ≡ Helping handler → ⊥) → is_thread k 10 ≡ false →
+pub works_as : (k : KernelState) (s : State) → (context k 10).state ≡ s → gives_no_first s ≡ true → is_giving s ≡ false → is_revoking s ≡ false → ((handler : ℕ) → s ≡ Helping handler → ⊥) → is_thread k 10 ≡ false →
     IsAtWork ⊥ (RevokesNothing k (Of tenant_domain)) (false ≡ true) (false ≡ true) k 10
 works_as k s is working calm unrevoking never none = record {
   state = ap gives_no_first is ∙ working;
@@ -237,7 +247,7 @@ works = (own_works first own_first first_works, (own_works second own_second sec
 -- ADMITTED
 
 pub walled_by : (k : KernelState) (ec : ℕ) → k.delegations.list ≡ ranges_there → IsWalled k (Of tenant_domain) ec
-walled_by k ec same pd page to s leads reaches =
+walled_by k ec same pd page to store s leads reaches =
     let l = led k.delegations.list pd page to leads in
     let at : IsIn ranges_there l.derivation = subst (λ (ds : List Derivation). IsIn ds l.derivation) same l.there in
     let object : l.derivation.kind ≡ Obj = (all_at IsHeld ranges_there l.derivation all_held at (subst (λ (n : ℕ). tenant_domain n ≡ true) (sym l.its) s)).0 in
@@ -247,7 +257,7 @@ walled_by k ec same pd page to s leads reaches =
 pub none_own : {A : Type 0} (k : KernelState) → own_turn tenant_domain k 0 ≡ Some (10, 12) → own_turn tenant_domain k 0 ≡ None → A
 none_own k own none = absurd (let both : ◌≡◌ {A = Option (ℕ × ℕ)} None (Some (10, 12)) = sym none ∙ own in cc)
 
-within_as : (k : KernelState) (s : State) → (context k 10).state ≡ s → is_giving s ≡ false → own_turn tenant_domain k 0 ≡ Some (10, 12) → GivesWithin tenant_domain k 0
+pub within_as : (k : KernelState) (s : State) → (context k 10).state ≡ s → is_giving s ≡ false → own_turn tenant_domain k 0 ≡ Some (10, 12) → GivesWithin tenant_domain k 0
 within_as k s is calm own ec sc at h =
     let same : ◌≡◌ {A = ℕ × ℕ} (10, 12) (ec, sc) = same_Some {A = ℕ × ℕ} (10, 12) (ec, sc) (sym own ∙ at) in
     let both : false ≡ true = sym (ap is_giving is ∙ calm) ∙ ap (λ (p : ℕ × ℕ). is_giving (context k p.0).state) same ∙ h in

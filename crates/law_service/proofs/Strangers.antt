@@ -23,6 +23,7 @@ use Rattle.law_forest.specs.Made.{IsMadeIn}
 use Rattle.law_forest.proofs.Members.{contains_from_in, filtered_in, in_from_contains}
 use Rattle.law_forest.proofs.Pairs.{same_id}
 use Rattle.law_forest.proofs.Scopes.{find_more}
+use Rattle.law_turns.specs.Revoking.{is_revoking}
 use Rattle.law_turns.specs.Asked.{HoldsAt}
 use Rattle.law_turns.specs.Tables.{has_words}
 use Rattle.law_turns.specs.Words.{words_at}
@@ -154,13 +155,7 @@ module _ (s : Scenario) (before : List ℕ) (S P : ℕ → Bool) (cpu ec : ℕ) 
       (slice_get new.memory.ram to.frame ≡ slice_get k.memory.ram to.frame) ⊎ FrameBy k ec to.frame (slice_get k.memory.ram to.frame) (slice_get new.memory.ram to.frame) →
       slice_get new.memory.ram to.frame ≡ slice_get k.memory.ram to.frame
   frame_so pd page to its leads (inl same) = same
-  frame_so pd page to its leads (inr by_store) =
-      let l = by_store.reaches.reaches in
-      let low = l.place.from_base in
-      let high = l.place.before_end in
-      let at = l.leads in
-      absurd (stranger.memory pd page to its leads
-      (record { derivation = l.derivation; there = l.there; of = l.holder; kind = l.kind; leads = record { first = omega (arith, at); last = omega (arith, at, low, high) }; allowed = l.allowed }))
+  frame_so pd page to its leads (inr by_store) = absurd (stranger.memory pd page to by_store.store its leads by_store.reaches)
 
   space_so : (kind : Kind) (pd page : ℕ) → S pd ≡ true → GrowsByRight k new ec → find (covers kind pd page) new.delegations.list ≡ find (covers kind pd page) k.delegations.list
   space_so kind pd page its (Keeps objects same) = ap (λ (f : Delegations). find (covers kind pd page) f.list) same
@@ -178,7 +173,7 @@ module _ (s : Scenario) (before : List ℕ) (S P : ℕ → Bool) (cpu ec : ℕ) 
       let leaf_in = (filtered_in (in_scope (record { pd = pd_of k ec; range = may.range; own = may.own }) k.delegations.list) k.delegations.list leaf
       (in_from_contains (scope (record { pd = pd_of k ec; range = may.range; own = may.own }) k.delegations.list) leaf may.taken)).0 in
       let one : x ≡ leaf = same_id k.delegations.list x leaf sound.forest.rising (in_from_contains k.delegations.list x here) leaf_in (eqb-true x.id leaf.id (unnot (x.id == leaf.id) out)) in
-      stranger.lines leaf may.ancestor (contains_from_in k.delegations.list leaf leaf_in) (subst (λ (n : ℕ). S n ≡ true) (sym same ∙ ap (λ (y : Derivation). y.pd) one) its) may.above may.held))
+      stranger.lines (ap is_revoking may.revokes) leaf may.ancestor (contains_from_in k.delegations.list leaf leaf_in) (subst (λ (n : ℕ). S n ≡ true) (sym same ∙ ap (λ (y : Derivation). y.pd) one) its) may.above may.held))
     where
       unnot : (t : Bool) → not t ≡ false → t ≡ true
       unnot true h = refl
@@ -267,8 +262,8 @@ module _ (s : Scenario) (before : List ℕ) (S P : ℕ → Bool) (cpu ec : ℕ) 
 
   -- IT GIVES NOTHING, OR NO MORE THAN ITS ENTRY
 
-  pub strangers : IsServedBy k (Of S) (Of P) cpu (entry_in P k cpu)
-  strangers = by_entry (entry_in P k cpu) refl
+  pub strangers : IsServedBy k (Of S) (Of P) cpu (entry_in S P k cpu)
+  strangers = by_entry (entry_in S P k cpu) refl
     where
       gift_some : (x : Entry) (g : Option Gift) (p : Option ℕ) (e : Entry) → p ≡ None → if_enters x g p ≡ Some e → (x ≡ e) × IsSome g
       gift_some x (Some g) p e none h = (same_Some x e h, refl)
@@ -282,12 +277,12 @@ module _ (s : Scenario) (before : List ℕ) (S P : ℕ → Bool) (cpu ec : ℕ) 
           by_test false is = refl
           by_test true is = absurd (stranger.payer c.sc (has_turn k cpu c sound.kept.edges chosen).chosen is)
 
-      by_next : (e : Entry) (o : Option Candidate) → next_to_act k cpu ≡ o → option_and_then (entry_by P k) o ≡ Some e → IsSome e.gift
+      by_next : (e : Entry) (o : Option Candidate) → next_to_act k cpu ≡ o → option_and_then (entry_by S P k) o ≡ Some e → IsSome e.gift
       by_next e None chosen h = absurd (cc)
       by_next e (Some c) chosen h =
-          let some = gift_some (entry_of P k c) (entry_of P k c).gift (entry_of P k c).payer e (unpaid c chosen) h in
+          let some = gift_some (entry_of S P k c) (entry_of S P k c).gift (entry_of S P k c).payer e (unpaid c chosen) h in
           subst (λ (x : Entry). IsSome x.gift) some.0 some.1
 
-      by_entry : (o : Option Entry) → entry_in P k cpu ≡ o → IsServedBy k (Of S) (Of P) cpu o
+      by_entry : (o : Option Entry) → entry_in S P k cpu ≡ o → IsServedBy k (Of S) (Of P) cpu o
       by_entry None is = left
       by_entry (Some e) is = gives k S P cpu e sound side is (by_next e (next_to_act k cpu) refl is)
