@@ -1,6 +1,6 @@
 """Two runs in which one side is the same: does its part of the reports stay the same?
 
-python3 tools/flow [--walled | --revokes | --leak NAME | --leaks] [--program FILE] [--count N] [--first SEED] [--turns N] [--keep FOLDER]
+python3 tools/flow [--walled | --revokes | --creates | --shared | --leak NAME | --leaks] [--program FILE] [--count N] [--first SEED] [--turns N] [--keep FOLDER]
 """
 
 from __future__ import annotations
@@ -10,13 +10,15 @@ import random
 import subprocess
 import sys
 import tempfile
+from dataclasses import dataclass
 from pathlib import Path
 
 sys.path.insert(0, str(Path(__file__).resolve().parent))
+from creators import Creator  # noqa: E402
 from leaks import LEAKS  # noqa: E402
-from parts import difference, free_part, part  # noqa: E402
-from premises import at_work, broken, revoking_within  # noqa: E402
-from scenarios import SOURCES, Attacker, Free, Reviser, SetUp, Worker  # noqa: E402
+from parts import difference, free_part, own_turns, part  # noqa: E402
+from premises import Allowed, at_work, broken, creating_alone, made_by_others, revoking_within  # noqa: E402
+from scenarios import Attacker, Free, Reviser, SetUp, Worker  # noqa: E402
 
 Blocks = list[list[int]]  # a processor and how many turns it has, in order
 MADE = [[0, 400], [1, 400], [2, 330]]  # by then the root has made both sides and ended; the second side has just begun
@@ -81,50 +83,104 @@ def free_pair(program: Program, seed: int, turns: int) -> tuple[str | None, int]
     return difference(*parts), len(parts[0][0])
 
 
-def compared(program: Program, name: str, scenarios: list[str], places: list[Blocks], turns: int, revokes: bool) -> tuple[set[str], str | None, int]:
-    """Which premises fail at the places, how the side's parts differ at the ends, and how many events are compared. At the places the parts are to be the same."""
-    premises: set[str] = set()
-    reports, parts = [], []
-    for other in (0, 1):
-        blocks = orders(f"{name} {other}", places[other], turns)
-        since = sum(count for _, count in places[other])
-        place = program.report(f"{name}.{other}.place", scenarios[other], places[other])
-        premises |= broken(place)
-        reports.append(place)
-        parts.append((part(place, since), part(program.report(f"{name}.{other}", scenarios[other], blocks), since)))
-    apart = difference(parts[0][0], parts[1][0])
+def cut(blocks: Blocks, turns: int) -> Blocks:
+    """The first so many turns of these."""
+    first: Blocks = []
+    for cpu, count in blocks:
+        if turns > 0:
+            first.append([cpu, min(count, turns)])
+        turns -= count
+    return first
+
+
+def with_turns(program: Program, name: str, scenario: str, blocks: Blocks, since: int, count: int) -> str:
+    """The report after the least number of turns in which the side has had so many of its own."""
+    low, high = since, sum(count for _, count in blocks)
+    while high - low > 1:
+        middle = (low + high) // 2
+        if own_turns(program.report(name, scenario, cut(blocks, middle)), since) < count:
+            low = middle
+        else:
+            high = middle
+    return program.report(name, scenario, cut(blocks, high))
+
+
+@dataclass(frozen=True)
+class Pair:
+    """Two scenarios, and for each where the runs are compared; what the side may do, and whether it shares its processor."""
+
+    name: str
+    scenarios: list[str]
+    places: list[Blocks]
+    allowed: Allowed = Allowed()
+    shared: bool = False
+
+    def reports(self, program: Program, turns: int) -> tuple[list[str], list[str]]:
+        """At the places, and after so many turns of the side's processor more, or with equally many turns of its own."""
+        blocks = [orders(f"{self.name} {n}", self.places[n], turns) for n in (0, 1)]
+        names = [f"{self.name}.{n}" for n in (0, 1)]
+        places = [program.report(f"{names[n]}.place", self.scenarios[n], self.places[n]) for n in (0, 1)]
+        ends = [program.report(names[n], self.scenarios[n], blocks[n]) for n in (0, 1)]
+        if self.shared:
+            counts = [own_turns(ends[n], self.since(n)) for n in (0, 1)]
+            if min(counts) == own_turns(places[0], self.since(0)):
+                return places, places
+            more = 0 if counts[0] > counts[1] else 1
+            ends[more] = with_turns(program, names[more], self.scenarios[more], blocks[more], self.since(more), min(counts))
+        return places, ends
+
+    def since(self, n: int) -> int:
+        return sum(count for _, count in self.places[n])
+
+
+def compared(program: Program, pair: Pair, turns: int) -> tuple[set[str], str | None, int]:
+    """Which premises fail at the places and from there on, how the side's parts differ at the ends, and how many events are compared. At the places the parts are to be the same."""
+    places, ends = pair.reports(program, turns)
+    allowed, begins = pair.allowed, [part(place, pair.since(n)) for n, place in enumerate(places)]
+    apart = difference(*begins)
     if apart:
-        raise Trouble(f"{name}: the sides differ where they are to be compared: {apart}")
-    premises |= at_work(parts[0][1][0], revokes) | (revoking_within(reports) if revokes else set())
-    return premises, difference(parts[0][1], parts[1][1]), len(parts[0][1][0])
+        raise Trouble(f"{pair.name}: the sides differ where they are to be compared: {apart}")
+    first, second = [part(end, pair.since(n), allowed.creates, pair.shared) for n, end in enumerate(ends)]
+    premises = broken(places[0], allowed.creates) | broken(places[1], allowed.creates) | at_work(first[0], allowed)
+    if allowed.revokes:
+        premises |= revoking_within(places)
+    if allowed.creates:
+        premises |= at_work(second[0], allowed) | creating_alone(pair.scenarios, places)
+        premises |= made_by_others(ends[0], pair.since(0)) | made_by_others(ends[1], pair.since(1))
+    return premises, difference(first, second), len(first[0])
 
 
-def walled_pair(program: Program, seed: int, turns: int, revokes: bool) -> tuple[set[str], str | None, int]:
-    """A side at work on a processor of its own, which revokes or not, with deadlines, beside one that tries everything; its processor's source rings at its semaphore, at the other's or at the root's."""
+def walled_pair(seed: int, allowed: Allowed, shared: bool) -> Pair:
+    """A side at work on a processor of its own, or that it shares, beside one that tries everything.
+
+    Its processor's source rings at its semaphore, where it may have deadlines, at the other side's or at the root's.
+    """
     scenarios = []
     for other in (0, 1):
         first, second = random.Random(f"source {seed}"), random.Random(f"source {seed} {other}")
         sources = (
             f"source 0 {second.choice([500, 900])} {second.choice([3, 70])} 1000000",
-            f"source 1 {first.choice([300, 450, 500])} {first.choice([1, 7, 40, 100])} 1000000",
+            f"source 1 {first.choice([300, 450, 500])} {first.choice([7, 40, 100] if allowed.creates else [1, 7, 40, 100])} 1000000",
             f"source 2 {second.choice([340, 500])} {second.choice([1, 2, 9, 50])} 1000000",
         )
-        side = Reviser(0, seed) if revokes else Worker(0, seed)
-        rings = ("own", "own", "other", "root")[seed % 4]
-        scenarios.append(SetUp(walled=True, sources=sources, rings=rings).text([side, Attacker(1, f"{seed} {other}")]))
-    return compared(program, f"walled.{seed}", scenarios, [MADE, MADE_BETWEEN if seed % 2 else MADE], turns, revokes)
+        side = Creator(0, seed) if allowed.creates else Reviser(0, seed) if allowed.revokes else Worker(0, seed)
+        rings = (("other", "other", "root", "root") if allowed.creates else ("own", "own", "other", "root"))[seed % 4]
+        pays = second.choice([1, 2, 3, 5, 9]) << 8 | second.choice([2, 3, 3, 3, 3, 4]) if shared else 0
+        scenarios.append(SetUp(walled=True, sources=sources, rings=rings, creates=allowed.creates, shared=pays).text([side, Attacker(1, f"{seed} {other}")]))
+    return Pair(f"walled.{seed}", scenarios, [MADE, MADE_BETWEEN if seed % 2 and not shared else MADE], allowed, shared)
 
 
-def tell_pairs(program: Program, walled: bool, revokes: bool, first: int, count: int, turns: int) -> bool:
+def tell_pairs(program: Program, allowed: Allowed | None, words: argparse.Namespace) -> bool:
+    """Of pairs that meet the premises, where it is said what the side may do, or of sides that do everything."""
     same = different = events = 0
-    for seed in range(first, first + count):
-        if walled:
-            premises, differs, more = walled_pair(program, seed, turns, revokes)
+    for seed in range(words.first, words.first + words.count):
+        if allowed:
+            premises, differs, more = compared(program, walled_pair(seed, allowed, words.shared), words.turns)
             if premises:
                 print(f"{seed}: these premises fail: {', '.join(sorted(premises))}")
                 return False
         else:
-            differs, more = free_pair(program, seed, turns)
+            differs, more = free_pair(program, seed, words.turns)
         events += more
         same, different = same + (differs is None), different + (differs is not None)
         if differs:
@@ -137,7 +193,7 @@ def tell_leak(program: Program, name: str, turns: int) -> bool:
     """Whether the premises that are to fail, and they alone, do, and the side differs."""
     leak = LEAKS[name]
     made = MADE if leak.first == 1 else MADE_OTHERWISE
-    premises, differs, _ = compared(program, f"leak.{name}", leak.pair(name), [made, made], turns, leak.revokes)
+    premises, differs, _ = compared(program, Pair(f"leak.{name}", leak.pair(name), [made, made], leak.allowed, any(leak.shared)), turns)
     print(f"{name}: {leak.tells}\n  without {', '.join(sorted(premises)) or 'nothing'}\n  {differs or 'no difference'}")
     return premises == leak.breaks and differs is not None
 
@@ -146,7 +202,9 @@ def tell(words: argparse.Namespace, program: Program) -> int:
     if words.leak or words.leaks:
         right = [tell_leak(program, name, words.turns) for name in ([words.leak] if words.leak else LEAKS)]
     else:
-        right = [tell_pairs(program, words.walled or words.revokes, words.revokes, words.first, words.count, words.turns)]
+        creates = words.creates or words.shared
+        allowed = Allowed(words.revokes or creates, creates) if words.walled or words.revokes or creates else None
+        right = [tell_pairs(program, allowed, words)]
     return 0 if all(right) else 1
 
 
@@ -160,6 +218,8 @@ def main() -> int:
     what = parser.add_mutually_exclusive_group()
     what.add_argument("--walled", action="store_true", help="pairs that meet the premises of the law on divided processors")
     what.add_argument("--revokes", action="store_true", help="such pairs, in which the side revokes, too")
+    what.add_argument("--creates", action="store_true", help="pairs that meet those of a side that creates alone, and revokes, too")
+    what.add_argument("--shared", action="store_true", help="so, on a processor that the sides share")
     what.add_argument("--leak", choices=sorted(LEAKS), help="a pair that meets all premises but those of this leak")
     what.add_argument("--leaks", action="store_true", help="each of these")
     words = parser.parse_args()

@@ -7,6 +7,7 @@ from __future__ import annotations
 
 from dataclasses import dataclass
 
+from premises import Allowed
 from scenarios import (
     ALL,
     ALL_PAGES,
@@ -14,7 +15,7 @@ from scenarios import (
     CONSOLE,
     CONTEXT,
     FRAMES,
-    HANDLER,
+    LENT,
     LENT_PAGE,
     OWN,
     PORTAL,
@@ -34,11 +35,13 @@ from scenarios import (
 COUNTS = ["addi x9, x9, 1"]
 RESTS = ["addi x0, x0, 0"]
 SPINS = [li(9, 170), "spin: addi x9, x9, -1", "bne x9, x0, spin"]  # longer than until the place where the runs are compared
+LATER = [li(9, 340), *SPINS[1:]]  # and longer than the other side spins
 
 
 GIVES_ON = message([(word("mem", LENT_PAGE, 0, 1), COMMON[1] << 12 | 1)]) + call(0, 422, 0) + ["ebreak"]  # the root gives the page on to the other side
 WAITS = call(12, 3 + 1, 1)  # the root waits for the source of the side's processor
 ONE_MORE = call(6, 203, 0, 0) + ["ebreak"]  # the root makes a semaphore, when the side is there
+UNBOUND, BOUND = (call(number, 203, 0, 409, 0x100) + ["ebreak"] for number in (6, 4))  # a semaphore, or a scheduling context for a thread of the side's, which is never chosen
 WHICH, TWICE, PLACES = VIEW[0] + 5, VIEW[0] + 4, (0x200, 0x201)  # pages of the side: that of the word, the one that it gives itself, and where
 SWAPS = [li(7, (FRAMES[0] + 5) * 4096), li(6, (PLACES[0] ^ PLACES[1]) << 12), "sw x6, 0(x7)", "ebreak"]  # the root writes the word
 WIPES = ["lui x5, 0xfffff", *(f"sw x0, {4 * place}(x5)" for place in range(124, 128)), "addi x6, x0, 0", "addi x9, x0, 0"]
@@ -98,14 +101,19 @@ class Leak:
     elsewhere: tuple[list[str], list[str]] = (["ebreak"], ["ebreak"])  # of the root, on the other side's processor
     first: int = 1  # the processor on which a side is made first
     handlers: tuple[type[Fixed], type[Fixed]] = (Fixed, Fixed)
-    revokes: bool = False  # whether the side may revoke
+    allowed: Allowed = Allowed()  # what the side may do
+    creates: bool = False  # whether it holds a right to create
+    cpus: tuple[int, int] = (SOURCES, SOURCES)  # how many processors there are
+    rings: str = "own"  # whose the semaphore of the source on its processor is
+    shared: tuple[int, int] = (0, 0)  # by what the other side has a thread on that processor, where the law allows it
 
     def pair(self, name: str) -> list[str]:
         """The two scenarios."""
-        set_up = SetUp(walled=True, leak=name, sources=tuple(f"source {cpu} {400 + 40 * cpu} 30 1000000" for cpu in range(SOURCES)))
+        sources = tuple(f"source {cpu} {400 + 40 * cpu} 30 1000000" for cpu in range(SOURCES))
+        set_ups = [SetUp(walled=True, leak=name, sources=sources, creates=self.creates, rings=self.rings, cpus=cpus, shared=pays) for cpus, pays in zip(self.cpus, self.shared)]
         told = [] if self.side is COUNTS else Fixed(0, []).told()
         first, second = self.handlers
-        return [set_up.text([first(0, self.side + told), second(1, self.others[n], SPINS + self.once[n])], self.root[n], self.elsewhere[n]) for n in (0, 1)]
+        return [set_ups[n].text([first(0, self.side + told), second(1, self.others[n], SPINS + self.once[n])], self.root[n], self.elsewhere[n]) for n in (0, 1)]
 
 
 LEAKS = {
@@ -184,7 +192,7 @@ LEAKS = {
         SPINS + call(7, word("mem", COMMON[0], 0, 7), 0),
         elsewhere=(["ebreak"], GIVES_ON),
         handlers=(Giver, Taker),
-        revokes=True,
+        allowed=Allowed(revokes=True),
     ),
     "order": Leak(
         "of two ranges that the side made of one, and takes back, the newer one goes first: which that is comes of what was in its memory once",
@@ -192,12 +200,56 @@ LEAKS = {
         call(12, SHARED, 1) + call(7, word("mem", TWICE, 0, 7), 0),
         root=(["ebreak"], SWAPS),
         handlers=(Forgetful, Fixed),
-        revokes=True,
+        allowed=Allowed(revokes=True),
     ),
     "creates": Leak(
         "the side creates a semaphore, whose number tells how many objects there are",
         frozenset({"IsAtWork.calls"}),
         SPINS + call(6, 100, OWN, 0),
         elsewhere=(["ebreak"], ONE_MORE),
+        creates=True,
+    ),
+    "numbers": Leak(
+        "the side, which creates alone, makes a semaphore, whose number tells how many objects there were",
+        frozenset({"AreCreatingAlone.objects"}),
+        SPINS + call(6, 100, OWN, 0),
+        elsewhere=(["ebreak"], ONE_MORE),
+        allowed=Allowed(creates=True),
+        creates=True,
+        rings="root",
+    ),
+    "makes": Leak(
+        "the other side makes a semaphore, too: the number of the next one that the side makes tells it",
+        frozenset({"OthersMakeNothing"}),
+        LATER + call(6, 100, OWN, 0),
+        once=([], call(6, 100, OWN, 0)),
+        allowed=Allowed(creates=True),
+        creates=True,
+        rings="root",
+    ),
+    "processors": Leak(
+        "there is a processor more: the side may make a thread for it",
+        frozenset({"AreCreatingAlone.cpus"}),
+        SPINS + call(3, 100, OWN, SOURCES, 0, 0),
+        allowed=Allowed(creates=True),
+        creates=True,
+        rings="root",
+        cpus=(SOURCES, SOURCES + 1),
+    ),
+    "scheduled": Leak(
+        "the root has made a scheduling context for a thread of the side's: the side can't make one",
+        frozenset({"IsCreatingAlone.schedules"}),
+        SPINS + call(4, 100, OWN, LENT, 0x100),
+        root=(UNBOUND, BOUND),
+        allowed=Allowed(creates=True),
+        creates=True,
+        rings="root",
+    ),
+    "clock": Leak(
+        "a source of a processor that both share rings at the side's semaphore: a down tells how many turns the other side had",
+        frozenset({"IsTimeless.alarms"}),
+        call(12, SHARED, 1),
+        allowed=Allowed(creates=True),
+        shared=(0x103, 0x1403),
     ),
 }

@@ -29,6 +29,17 @@ def objects_of(domain: int, lines: list[list[str]]) -> set[int]:
     return set(made_for(domain, lines)) | held & semaphores
 
 
+def makes(event: list[str]) -> bool:
+    """Whether an event of a report is one in which an object is made."""
+    return event[2] == "answer" and event[3] in "23456" and event[4] == "0" or event[2:4] == ["begin", "2"]
+
+
+def made_since(lines: list[list[str]], turns: int) -> range:
+    """The numbers of the objects that are made after so many turns."""
+    places = [int(line[1]) for line in lines if line[0] == "at" and makes(line[2:])]
+    return range(FIRST_OBJECT + sum(place <= turns for place in places), FIRST_OBJECT + len(places))
+
+
 def told(event: list[str], elsewhere: set[str]) -> list[str]:
     """An event but for numbers of ranges, and, of a source that rings elsewhere, but for what it finds there."""
     cpu, context, kind, a, b = event
@@ -37,19 +48,32 @@ def told(event: list[str], elsewhere: set[str]) -> list[str]:
     return [cpu, context, kind, "0" if kind in ("made", "gone") else a, "0" if kind == "made" else b]
 
 
-def part(report: str, since: int = 0) -> Part:
-    """The events of processor 1 after so many turns, as they are told, and what there is of the side that is made there: objects by number, ranges by what they give."""
+def own_turns(report: str, since: int) -> int:
+    """How many turns the side on processor 1 paid for, by what it had and what was made after so many turns."""
+    lines = [line.split() for line in report.splitlines()]
+    own = objects_of(made_at(lines, 1), lines) | set(made_since(lines, since))
+    return sum(int(line[3]) for line in lines if line[0] == "sc" and int(line[1]) in own)
+
+
+def part(report: str, since: int = 0, creates: bool = False, shared: bool = False) -> Part:
+    """The events of processor 1 after so many turns, as they are told, and what there is of the side that is made there: objects by number, ranges by what they give.
+
+    If it creates, all that is made after these turns is its own. Of a shared processor the events are those of its execution contexts.
+    """
     lines = [line.split() for line in report.splitlines()]
     domain = made_at(lines, 1)
-    own = objects_of(domain, lines)
+    more = set(made_since(lines, since)) if creates else set()
+    own = objects_of(domain, lines) | more
     elsewhere = {line[1] for line in lines if line[0] == "source" and int(line[3]) not in own}
     events = [told(line[2:7], elsewhere) for line in lines if line[0] == "at" and line[2] == "1" and int(line[1]) > since]
+    if shared:
+        events = [event for event in events if event[2] != "irq" and int(event[1]) in own]
     rest = []
     for line in lines:
-        if line[0] in ("ec", "sc", "sm") and int(line[1]) in own or line[:2] in (["source", "1"], ["console", "0"]):
+        if line[0] in ("ec", "sc", "sm") and int(line[1]) in own or line[:2] == ["console", "0"] or line[:2] == ["source", "1"] and not shared:
             rest.append(line)
-        elif line[0] == "cap" and int(line[3]) == domain:
-            rest.append(["cap"] + line[4:])
+        elif line[0] == "cap" and int(line[3]) in {domain} | more:
+            rest.append(["cap"] + line[3:])
     return events, sorted(rest)
 
 
@@ -74,7 +98,7 @@ def free_part(report: str) -> Part:
         side = whose.get(ec)
         if side == "root" and ec != 1 and cpu > 0:  # the root's thread on a side's processor makes that side
             side = cpu - 1
-        if kind == "answer" and a in "23456" and b == "0" or kind == "begin" and a == "2":
+        if makes(line[2:]):
             whose[next_object] = side
             if side == 0:
                 objects[next_object] = len(objects)

@@ -1,4 +1,4 @@
-"""The premises of `noninterference_on_divided_processors` in the state at the end of a report, for the sides that a root makes.
+"""The premises of `noninterference_on_divided_processors`, or of `noninterference` where a side creates, in the state at the end of a report, for the sides that a root makes.
 
 They are named as the fields of the conditions of `law_flow` and `law_integrity`. S is the domain that the root makes on processor 1, T the one on
 processor 2; P has what the root makes for S, and what semaphores S holds; and processor 1 is the side's own. What objects are is known of how they are made; all else is read off the report.
@@ -6,8 +6,9 @@ processor 2; P has what the root makes for S, and what semaphores S holds; and p
 
 from __future__ import annotations
 
-from parts import KINDS, made_at, made_for, objects_of
-from scenarios import SOURCES
+from dataclasses import dataclass
+
+from parts import KINDS, made_at, made_for, made_since, makes, objects_of
 
 WRITE, CREATE = 2, 1
 
@@ -29,6 +30,7 @@ class State:
             self.homes |= {n: (domain, acted.get(n, 3 - cpu if n > domain + 6 else cpu)) for n, kind in zip(made, KINDS) if kind == "ec"}
         self.capabilities = [Capability(line) for line in lines if line[0] == "cap"]
         self.by_number = {capability.number: capability for capability in self.capabilities}
+        self.schedules = {int(line[1]) for line in lines if line[0] == "sc" and int(line[1]) > self.first and line[2] == "1"}  # that pay for turns of the side's processor
         self.sources = [(int(line[2]), int(line[3])) for line in lines if line[0] == "source"]  # processor and semaphore
 
     def line(self, capability: Capability) -> list[Capability]:
@@ -100,17 +102,27 @@ def of_processors(state: State) -> set[str]:
     return found
 
 
-CREATES, REVOKE = {"2", "3", "4", "5", "6"}, "7"
+CREATE_PD, CREATES, REVOKE, WAIT, TIMEOUT = "2", {"2", "3", "4", "5", "6"}, "7", "12", "1"
 GIVES = {"made", "skip", "xlat", "ended"}
 
 
-def at_work(events: list[list[str]], revokes: bool = False) -> set[str]:
-    """Whether these events of the side's processor are of a side at work, that may revoke or not."""
+@dataclass(frozen=True)
+class Allowed:
+    """What a side may do beside what each at work does."""
+
+    revokes: bool = False
+    creates: bool = False  # alone, without deadlines
+
+
+def at_work(events: list[list[str]], allowed: Allowed = Allowed()) -> set[str]:
+    """Whether these events of the side's processor are of a side at work."""
     found, amid = set(), set()  # who is amid a revoke
-    for _, context, kind, a, _ in events:
-        if kind == "answer" and (a in CREATES or a == REVOKE and not revokes):
+    for _, context, kind, a, b in events:
+        asks = kind == "answer" and (a in CREATES and not allowed.creates or a == REVOKE and not allowed.revokes)
+        waits = kind == "late" or (kind, a, b) == ("answer", WAIT, TIMEOUT)
+        if asks or (kind, a) == ("begin", CREATE_PD) or waits and allowed.creates:
             found.add("IsAtWork.calls")
-        if kind == "gone" and not revokes:
+        if kind == "gone" and not allowed.revokes:
             found.add("IsAtWork.revokes")
         if kind in GIVES and amid - {context}:
             found.add("IsAtWork.gives")
@@ -137,8 +149,38 @@ def revoking_within(reports: list[str]) -> set[str]:
     return found
 
 
-def broken(report: str) -> set[str]:
-    """The premises that don't hold."""
+def creating_alone(scenarios: list[str], reports: list[str]) -> set[str]:
+    """What fails at places of two scenarios of what is asked where the side creates alone, without alarms."""
+    states = [State(report) for report in reports]
+    found = set()
+    if len({made_since([line.split() for line in report.splitlines()], 0).stop for report in reports}) > 1:
+        found.add("AreCreatingAlone.objects")
+    if len({scenario.split()[1] for scenario in scenarios}) > 1:
+        found.add("AreCreatingAlone.cpus")
+    if any(state.schedules - state.own - set(state.made[1]) for state in states):
+        found.add("IsCreatingAlone.schedules")
+    if any(semaphore in state.own for state in states for _, semaphore in state.sources):
+        found.add("IsTimeless.alarms")
+    return found
+
+
+def made_by_others(report: str, since: int) -> set[str]:
+    """Whether somebody else makes an object after so many turns."""
+    lines = [line.split() for line in report.splitlines()]
+    number, own = made_since(lines, since).start, set(State(report).made[0])
+    for line in lines:
+        if line[0] != "at" or int(line[1]) <= since or not makes(line[2:]):
+            continue
+        if int(line[3]) not in own:
+            return {"OthersMakeNothing"}
+        own.add(number)
+        number += 1
+    return set()
+
+
+def broken(report: str, creates: bool = False) -> set[str]:
+    """The premises that don't hold; where the side creates, those but of processors: that the others make nothing is asked of the run."""
     state = State(report)
     first, second = state.made
-    return of_objects(state, state.first, first) | of_objects(state, state.second, second) | of_both(state) | of_processors(state)
+    found = of_objects(state, state.first, first) | of_objects(state, state.second, second) | of_both(state) | of_processors(state)
+    return {name for name in found if not (creates and name.startswith(("IsDivided", "HasHome")))}

@@ -1,7 +1,7 @@
 """Scenarios of two sides, each on a processor of its own, that a root makes before it dies.
 
 Side 0 is the one that is looked at. `Free` sides do everything: they create, give, revoke. `Worker` sides are at work, and hold no right to
-create; `Reviser` sides are so, and revoke what they gave. `Fixed` sides have one program, as the leaks need it.
+create; `Reviser` sides are so, and revoke what they gave; `Creator` sides (see `creators`) create, too. `Fixed` sides have one program, as the leaks need it.
 """
 
 from __future__ import annotations
@@ -16,7 +16,7 @@ LENT_PAGE = 0x160  # where the root has a page that a side gave it
 FAR = 9_000_000  # a moment that no run reaches: each processor has a source, so that it is never idle
 SOURCES = 3
 OWN, HANDLER, PORTAL, SHARED, LENT, CONTEXT, SERVER, STARTUP_AT = 1, 2, 3, 4, 6, 7, 8, 16  # selectors of a side's domain
-SECOND = {"stranger": (1, 1, 0x504), "away": (0, 2, 0x502), "order": (0, 1, 0x504)}  # leaks in which a side has a second thread: the side, the processor, what pays
+SECOND = {"stranger": (1, 1, 0x504), "away": (0, 2, 0x502), "order": (0, 1, 0x504), "scheduled": (0, 1, 0)}  # leaks in which a side has a second thread: the side, the processor, what pays
 ALL, ALL_PAGES = (20 << 7) | (31 << 2) | 3, (20 << 7) | (7 << 2) | 1
 STARTUP = ["lui x5, 0xfffff", "sw x10, 28(x5)", "addi x6, x0, 2", "sw x6, 16(x5)", "sw x0, 0(x5)", "addi x17, x0, 1", "ecall"]
 
@@ -277,14 +277,15 @@ class Fixed(Side):
 
 
 class SetUp:
-    """What the root makes. `walled`: no right to create is left with the sides, which hold the semaphore of their processor's source and their scheduling context.
+    """What the root makes. `walled`: no right to create is left with the sides, which hold the semaphore of their processor's source and their scheduling context; but with side 0 where it `creates`.
 
-    `rings`: whose the semaphore of the source on side 0's processor is: its own, the other side's, or the root's.
+    `rings`: whose the semaphore of the source on side 0's processor is: its own, the other side's, or the root's. `shared`: by what side 1 has a second thread on side 0's processor.
     """
 
-    def __init__(self, walled: bool = False, leak: str = "", sources: tuple[str, ...] = (), rings: str = "own") -> None:
+    def __init__(self, walled: bool = False, leak: str = "", sources: tuple[str, ...] = (), rings: str = "own", creates: bool = False, cpus: int = SOURCES, shared: int = 0) -> None:
         self.walled, self.leak, self.rings = walled, leak, "root" if leak == "woken" else rings
-        self.second = SECOND.get(leak, (None, 0, 0))
+        self.creates, self.cpus = creates, cpus
+        self.second = (1, 1, shared) if shared else SECOND.get(leak, (None, 0, 0))
         self.sources = sources or tuple(f"source {cpu} {FAR} 1 1" for cpu in range(SOURCES))
 
     def semaphore(self, side: int) -> int:
@@ -295,8 +296,9 @@ class SetUp:
 
     def items(self, side: int) -> list[tuple[int, int]]:
         s = 400 + 20 * side
-        items = [(word("obj", s + 1, 0, 1 if self.walled else 7), HANDLER), (word("obj", s + 4, 0, 7), PORTAL), (word("obj", s + 3, 0, 4), STARTUP_AT)]
-        if not self.walled or self.leak == "create" and side == 1 or self.leak == "creates" and side == 0:
+        free = not self.walled or self.creates and side == 0
+        items = [(word("obj", s + 1, 0, 7 if free else 1), HANDLER), (word("obj", s + 4, 0, 7), PORTAL), (word("obj", s + 3, 0, 4), STARTUP_AT)]
+        if free or self.leak in ("create", "makes") and side == 1:
             items.append((word("obj", s, 0, 1), OWN))
         if self.walled:
             items += [(word("obj", self.semaphore(side), 0, 3), SHARED), (word("obj", s + 6, 0, 1), CONTEXT)]
@@ -304,6 +306,8 @@ class SetUp:
             items = items[:-1] + ([(word("obj", 426, 0, 1), CONTEXT)] if side == 0 else [])
         if side == self.second[0]:
             items.append((word("obj", s + 8, 0, 4), STARTUP_AT + 1))
+        if self.leak == "scheduled" and side == 0:
+            items.append((word("obj", s + 9, 0, 7), LENT))
         if self.leak == "answers":
             items.append((word("obj", 211 + 2 * side, 0, 2), SERVER))
         return items
@@ -321,7 +325,7 @@ class SetUp:
         whose, where, pays = self.second
         if side == whose:
             lines += call(3, s + 7, s, where, 0, 0) + call(5, s + 8, 0, s + 7, 0, at + 0x100) + call(11, s + 8, at + 0x3000)
-            lines += call(3, s + 9, s, 0x100 + where, 0, STARTUP_AT + 1) + call(4, s + 10, 0, s + 9, pays)
+            lines += call(3, s + 9, s, 0x100 + where, 0, STARTUP_AT + 1) + (call(4, s + 10, 0, s + 9, pays) if pays else call(6, s + 10, 0, 0))
         lines += message([(range_word, place << 12 | 1) for range_word, place in self.items(side)]) + call(0, s + 2, 0)
         if self.leak == "ancestor" and side == 0:  # and the root gives it to the other side
             lines += message([(word("mem", LENT_PAGE, 0, 1), COMMON[0] << 12 | 1)]) + call(0, s + 2, 0)
@@ -344,7 +348,7 @@ class SetUp:
             root += call(3, s, 0, cpu, 0, 0) + call(5, 320 + 16 * side, 0, s, 0, 0x5000) + call(11, 320 + 16 * side, 0x6000 + 0x1000 * side)
             root += call(3, s + 1, 0, 0x100 + cpu, 0, 320 + 16 * side) + call(4, s + 2, 0, s + 1, 0x1C8)
         return (
-            f"cpus {SOURCES}\nram 6\nconsoles 2\nroot 0 0x2000 200 50\n"
+            f"cpus {self.cpus}\nram 6\nconsoles 2\nroot 0 0x2000 200 50\n"
             + "".join(f"{line}\n" for line in self.sources)
             + image(0, root + ["ebreak"])
             + image(0x4000, message([(w, place << 12 | 1) for w, place in view]) + ["addi x17, x0, 1", "ecall"])

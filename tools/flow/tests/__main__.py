@@ -17,9 +17,9 @@ TOOL = TOP / "tools" / "flow"
 sys.path.insert(0, str(TOOL))
 
 from leaks import LEAKS  # noqa: E402
-from parts import difference, free_part, part, told  # noqa: E402
-from premises import at_work, broken, revoking_within  # noqa: E402
-from scenarios import Fixed, SetUp, word  # noqa: E402
+from parts import difference, free_part, own_turns, part, told  # noqa: E402
+from premises import Allowed, at_work, broken, creating_alone, made_by_others, revoking_within  # noqa: E402
+from scenarios import OWN, SHARED, Fixed, SetUp, call, word  # noqa: E402
 
 PROGRAM = TOP / "crates" / "nova" / "out" / "nova"
 PLACE = "0 400\n1 400\n2 330\n"
@@ -49,7 +49,7 @@ class Parts(unittest.TestCase):
         events, rest = part(self.report)
         self.assertTrue(all(event[0] == "1" for event in events))
         self.assertEqual({line[0] for line in rest}, {"ec", "sc", "sm", "cap", "source", "console"})
-        self.assertIn(["cap", "mem", "256", "3", "7", "16"], rest)
+        self.assertIn(["cap", "17", "mem", "256", "3", "7", "16"], rest)
 
     def test_a_number_that_differs_is_found(self) -> None:
         line = next(line for line in self.report.splitlines() if line.startswith("ec ") and "x9=" in line)
@@ -60,6 +60,11 @@ class Parts(unittest.TestCase):
     def test_ranges_are_told_by_what_they_give(self) -> None:
         renumbered = "".join(f"{' '.join(['cap', '99', '-'] + line.split()[3:])}\n" if line.startswith("cap") else f"{line}\n" for line in self.report.splitlines())
         self.assertIsNone(difference(part(self.report), part(renumbered)))
+
+    def test_of_a_shared_processor_the_sides_own_events_are_told(self) -> None:
+        self.assertTrue(all(event[1] in ("18", "22") for event in part(self.report, 600, shared=True)[0]))
+        longer = run(SetUp(walled=True).text([Fixed(0, ["addi x9, x9, 1"]), Fixed(1, [])]), PLACE + "1 31\n")
+        self.assertEqual(own_turns(longer, 1130), own_turns(self.report, 1130) + 1)
 
     def test_of_a_source_that_rings_elsewhere_is_told_that_it_rang(self) -> None:
         event = ["1", "22", "irq", "1", "3"]
@@ -108,9 +113,15 @@ class Premises(unittest.TestCase):
     def test_a_side_that_may_revoke_gives_while_it_revokes_nothing(self) -> None:
         revokes = [["1", "22", "begin", "7", "256"], ["1", "22", "gone", "0", "7"], ["1", "22", "answer", "7", "0"]]
         gives = ["1", "18", "made", "0", "0"]
-        self.assertEqual(at_work([*revokes, gives], revokes=True), set())
-        self.assertEqual(at_work([*revokes[:2], gives, revokes[2]], revokes=True), {"IsAtWork.gives"})
-        self.assertEqual(at_work([["1", "22", "answer", "6", "8"]], revokes=True), {"IsAtWork.calls"})
+        self.assertEqual(at_work([*revokes, gives], Allowed(revokes=True)), set())
+        self.assertEqual(at_work([*revokes[:2], gives, revokes[2]], Allowed(revokes=True)), {"IsAtWork.gives"})
+        self.assertEqual(at_work([["1", "22", "answer", "6", "8"]], Allowed(revokes=True)), {"IsAtWork.calls"})
+
+    def test_a_side_that_creates_gives_no_first_range_and_has_no_deadline(self) -> None:
+        alone = Allowed(creates=True)
+        self.assertEqual(at_work([["1", "22", "answer", number, "0"] for number in "23456"], alone), set())
+        for event in (["begin", "2", "31"], ["answer", "12", "1"], ["late", "8", "1"]):
+            self.assertEqual(at_work([["1", "22", *event]], alone), {"IsAtWork.calls"})
 
     def test_what_others_made_of_the_sides_ranges_is_found(self) -> None:
         report = self.report(SetUp(walled=True))
@@ -132,6 +143,22 @@ class Premises(unittest.TestCase):
         self.assertEqual(revoking_within([report, child]), {"AreDerivedAlike.children"})
 
 
+    def test_a_side_that_creates_beside_others_that_do_isnt_alone(self) -> None:
+        makes, rests, first, then = call(6, 100, OWN, 0) + ["ebreak"], ["ebreak"], "0 400\n1 400\n2 330\n", "0 400\n2 330\n1 400\n"
+        own, others = SetUp(walled=True, creates=True).text([Fixed(0, makes), Fixed(1, rests)]), SetUp().text([Fixed(0, rests), Fixed(1, makes)])
+        self.assertEqual([made_by_others(run(own, then), 920), made_by_others(run(others, first), 980)], [set(), {"OthersMakeNothing"}])
+
+    def test_what_is_asked_of_two_places_where_a_side_creates_is_found(self) -> None:
+        scenario = SetUp(walled=True, rings="root", creates=True).text([Fixed(0, []), Fixed(1, [])])
+        place, sooner = run(scenario, PLACE), run(scenario, "0 400\n1 400\n2 60\n")
+        own = next(line.split()[8] for line in place.splitlines() if line.startswith("cap") and line.split()[3:6] == ["17", "obj", str(SHARED)])
+        self.assertEqual(creating_alone([scenario] * 2, [place] * 2), set())
+        self.assertEqual(creating_alone([scenario] * 2, [place, sooner]), {"AreCreatingAlone.objects"})
+        self.assertEqual(creating_alone([scenario, scenario.replace("cpus 3", "cpus 4")], [place] * 2), {"AreCreatingAlone.cpus"})
+        self.assertEqual(creating_alone([scenario] * 2, [place, place.replace("source 1 1 4 ", f"source 1 1 {own} ")]), {"IsTimeless.alarms"})
+        self.assertEqual(creating_alone([scenario] * 2, [place, place + "sc 99 1 0\n"]), {"IsCreatingAlone.schedules"})
+
+
 class Runs(unittest.TestCase):
     """Of the command: pairs that are the same, and leaks that are not."""
 
@@ -146,6 +173,14 @@ class Runs(unittest.TestCase):
     def test_sides_that_give_and_revoke_behind_walls_are_the_same(self) -> None:
         status, said = tells("--revokes", "--count", "10", "--turns", "800")
         self.assertEqual((status, said.split()[:4]), (0, ["same", "10", "different", "0"]))
+
+    def test_sides_that_create_alone_are_the_same(self) -> None:
+        status, said = tells("--creates", "--count", "10", "--turns", "800")
+        self.assertEqual((status, said.split()[:4]), (0, ["same", "10", "different", "0"]))
+
+    def test_sides_that_share_a_processor_are_the_same_by_their_own_turns(self) -> None:
+        status, said = tells("--shared", "--count", "4", "--turns", "500")
+        self.assertEqual((status, said.split()[:4]), (0, ["same", "4", "different", "0"]))
 
     def test_each_leak_breaks_its_premises_alone_and_is_seen(self) -> None:
         for name in LEAKS:
