@@ -1,24 +1,20 @@
 -- Two vertices of which all that is read and all that is counted is the same are in one state.
-use Rattle.std.proofs.Common.{◌≡◌, ℕ, zero, suc, ◌<◌, List, [], ◌∷◌, length, map, ap, ap₂, sym, ◌∙◌, subst, refl, arith}
-use Rattle.std.specs.Prelude.{◌↔◌, Bool, true, false, slice_get, Option, Some, None, IfSome, is_some, option_map}
+use Rattle.std.proofs.Common.{◌≡◌, ℕ, suc, ◌<◌, List, [], ◌∷◌, length, map, ap, ap₂, sym, ◌∙◌, subst, refl, arith}
+use Rattle.std.specs.Prelude.{Bool, true, false, slice_get, Option, Some, None, is_some, option_map}
 use Rattle.std.proofs.lemmas.List.{length-map}
 use Rattle.nova_objects.specs.declared.object.Object.{Object}
 use Rattle.nova_model.specs.Capabilities.{is_vcpu}
-use Rattle.nova_model.specs.State.{Contexts, KernelState, Semaphore, context_at, entry}
-use Rattle.nova_model.specs.Times.{Entry, Times, entries, next_entry}
+use Rattle.nova_model.specs.State.{Contexts, KernelState, Semaphore, entry}
 use Rattle.nova_model.specs.declared.budget.Budget.{Budget}
-use Rattle.nova_model.specs.declared.context.EcState.{EcState}
 use Rattle.nova_model.specs.declared.delegation.Derivation.{Derivation}
 use Rattle.nova_model.specs.declared.log.LogByte.{LogByte}
 use Rattle.nova_model.specs.declared.times.AlarmState.{AlarmState}
 use Rattle.nova_model.specs.declared.times.Deadline.{Deadline}
 use Rattle.nova_model.specs.declared.transfer.Transfer.{Transfer}
-use Rattle.law_turns.specs.Moments.{HasEntries}
 use Rattle.law_turns.specs.Tables.{HasTables}
-use Rattle.law_turns.specs.Waiting.{IsAwaiting}
 use Rattle.law_turns.proofs.Tags.{tags_length}
 use Rattle.law_sameness.specs.Counts.{Counts, stamp_in}
-use Rattle.law_sameness.specs.States.{AreCountedAlike, AreReadAlike, IsAtRest, IsSameAt, count_in, is_guest_in}
+use Rattle.law_sameness.specs.States.{AreCountedAlike, AreMomentsSame, AreReadAlike, IsSameAt, count_in, is_guest_in}
 use Rattle.law_turns.specs.Keeping.{IsKept}
 
 -- TABLES
@@ -89,39 +85,6 @@ same_guests (x ∷ xs) (y ∷ ys) (o ∷ os) a b each =
     ap₂ (λ (h : Option ℕ) (t : List (Option ℕ)). h ∷ t) (same_guest x y o first second (each 0 (omega arith)))
     (same_guests xs ys os rest rests (λ n less. each (suc n) (omega (arith, less))))
 
--- DEADLINES
-
-no_entry : (o : Option Entry) → option_map (λ (e : Entry). e.moment) o ≡ None → o ≡ None
-no_entry None is = refl
-no_entry (Some e) is = absurd (cc)
-
-on_processor : (o : Option EcState) (cpu cpus : ℕ) → option_map (λ (x : EcState). x.cpu) o ≡ Some cpu → IfSome o (λ (x : EcState). x.cpu < cpus) → cpu < cpus
-on_processor None cpu cpus is below = absurd (cc)
-on_processor (Some x) cpu cpus is below = let same : x.cpu ≡ cpu = cc in subst (λ (n : ℕ). n < cpus) same below
-
-there_of : {T : Type 0} (xs : List (Option T)) (n : ℕ) (x : T) → entry (slice_get xs n) ≡ Some x → n < length xs
-there_of [] n x is = absurd (cc)
-there_of (y ∷ xs) zero x is = omega arith
-there_of (y ∷ xs) (suc n) x is = let less = there_of xs n x is in omega (arith, less)
-
-no_deadline : (k : KernelState) → IsKept k → ((t : Times) (cpu : ℕ) → (next_entry t cpu ≡ None) ↔ (entries t cpu ≡ [])) →
-    ((t : Times) (cpu : ℕ) → HasEntries t cpu) → IsAtRest k → ((n : ℕ) → n < length k.objects → IfSome (context_at k n) (λ (x : EcState). x.cpu < k.cpus)) →
-    (n : ℕ) → entry (slice_get k.times.deadlines n) ≡ None
-no_deadline k kept none all rest on n = by_entry (entry (slice_get k.times.deadlines n)) refl
-  where
-    by_entry : (o : Option Deadline) → entry (slice_get k.times.deadlines n) ≡ o → o ≡ None
-    by_entry None is = refl
-    by_entry (Some d) is =
-        let within = there_of k.times.deadlines n d is in
-        let long = kept.tables.deadlines in
-        let waits : IsAwaiting k.contexts n d = kept.deadlines n d is in
-        let below : d.cpu < k.cpus = on_processor (context_at k n) d.cpu k.cpus waits.processor (on n (omega (arith, within, long))) in
-        let empty : entries k.times d.cpu ≡ [] = (none k.times d.cpu).0 (no_entry (next_entry k.times d.cpu) (rest.none d.cpu below)) in
-        let there = (all k.times d.cpu).deadlines n d is refl in
-        let fewer : there.0 < length (entries k.times d.cpu) = there.1 in
-        let no : length (entries k.times d.cpu) ≡ 0 = ap length empty in
-        absurd (omega (arith, fewer, no))
-
 -- ALL PARTS
 
 -- the state of all its parts
@@ -169,19 +132,16 @@ all_parts a b s0 s1 s2 s3 s4 s5 s6 s7 s8 s9 s10 s11 s12 s13 s14 s15 s16 s17 s18 
 
 -- WHAT IS READ
 
--- tables of which all that is read is the same, and nothing is to come at deadlines
+-- tables of which all that is read is the same
 pub record AreTablesSame (a b : KernelState) : Type 0 where
   pub contexts : a.contexts ≡ b.contexts
   pub messages : a.messages ≡ b.messages
   pub transfers : a.transfers ≡ b.transfers
   pub identifiers : a.identifiers ≡ b.identifiers
   pub semaphores : a.semaphores ≡ b.semaphores
-  pub first : (n : ℕ) → entry (slice_get a.times.deadlines n) ≡ None
-  pub second : (n : ℕ) → entry (slice_get b.times.deadlines n) ≡ None
 
-pub tables_same : (a b : KernelState) → ((t : Times) (cpu : ℕ) → (next_entry t cpu ≡ None) ↔ (entries t cpu ≡ [])) → ((t : Times) (cpu : ℕ) → HasEntries t cpu) →
-    IsKept a → IsKept b → IsAtRest a → IsAtRest b → AreReadAlike a b → AreTablesSame a b
-tables_same a b none all v w rest rests alike = record {
+pub tables_same : (a b : KernelState) → IsKept a → IsKept b → AreReadAlike a b → AreTablesSame a b
+tables_same a b v w alike = record {
   contexts =
       let la = contexts_length a x in let lb = contexts_length b y in
       same_tables a.contexts b.contexts (la ∙ long ∙ sym lb) (λ n less. (each n (omega (arith, less, la))).context);
@@ -197,8 +157,6 @@ tables_same a b none all v w rest rests alike = record {
   semaphores =
       let la = table_length a.semaphores _ a.objects x.semaphores in let lb = table_length b.semaphores _ b.objects y.semaphores in
       same_tables a.semaphores b.semaphores (la ∙ long ∙ sym lb) (λ n less. (each n (omega (arith, less, la))).semaphore);
-  first = no_deadline a v none all rest (λ m more. (each m more).processor);
-  second = no_deadline b w none all rests other_on;
 }
   where
     x : HasTables a
@@ -213,22 +171,16 @@ tables_same a b none all v w rest rests alike = record {
     long : length a.objects ≡ length b.objects
     long = ap length alike.objects
 
-    other_on : (n : ℕ) → n < length b.objects → IfSome (context_at b n) (λ (z : EcState). z.cpu < b.cpus)
-    other_on n less =
-        let here = each n (omega (arith, less, long)) in
-        subst (λ (c : ℕ). IfSome (context_at b n) (λ (z : EcState). z.cpu < c)) alike.cpus
-        (subst (λ (o : Option EcState). IfSome o (λ (z : EcState). z.cpu < a.cpus)) here.context here.processor)
-
 -- AND WHAT IS COUNTED
 
-pub same_state : (a b : KernelState) → ((t : Times) (cpu : ℕ) → (next_entry t cpu ≡ None) ↔ (entries t cpu ≡ [])) → ((t : Times) (cpu : ℕ) → HasEntries t cpu) →
-    IsKept a → IsKept b → a.stirs.processors ≡ a.times.clocks → b.stirs.processors ≡ b.times.clocks → IsAtRest a → IsAtRest b → AreReadAlike a b → AreCountedAlike a b → a ≡ b
-same_state a b none all v w one other rest rests alike counted =
+pub same_state : (a b : KernelState) → IsKept a → IsKept b → a.stirs.processors ≡ a.times.clocks → b.stirs.processors ≡ b.times.clocks → AreReadAlike a b →
+    AreCountedAlike a b → AreMomentsSame (length a.objects) a.times b.times → a ≡ b
+same_state a b v w one other alike counted moments =
     all_parts a b alike.derivations (ap (λ (c : Counts). c.next_id) counted.counts) alike.objects t.contexts t.messages t.transfers budgets t.identifiers t.semaphores alike.ram alike.log
-    (ap (λ (c : Counts). c.next_stamp) counted.counts) counted.turns alike.cpus alike.consoles guests (one ∙ clocks ∙ sym other) clocks deadlines (rest.alarms ∙ sym rests.alarms)
+    (ap (λ (c : Counts). c.next_stamp) counted.counts) counted.turns alike.cpus alike.consoles guests (one ∙ clocks ∙ sym other) clocks deadlines moments.alarms
   where
     t : AreTablesSame a b
-    t = tables_same a b none all v w rest rests alike
+    t = tables_same a b v w alike
 
     clocks : a.times.clocks ≡ b.times.clocks
     clocks = ap (λ (c : Counts). c.clocks) counted.counts
@@ -254,4 +206,6 @@ same_state a b none all v w one other rest rests alike counted =
         (λ n less. (counted.each n less).stirs)
 
     deadlines : a.times.deadlines ≡ b.times.deadlines
-    deadlines = same_tables a.times.deadlines b.times.deadlines (x.deadlines ∙ long ∙ sym y.deadlines) (λ n less. t.first n ∙ sym (t.second n))
+    deadlines =
+        let la = x.deadlines in
+        same_tables a.times.deadlines b.times.deadlines (la ∙ long ∙ sym y.deadlines) (λ n less. moments.deadlines n (omega (arith, less, la)))

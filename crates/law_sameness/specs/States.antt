@@ -1,12 +1,11 @@
 -- When all that calls of a kernel read is the same in two states, with what is counted beside it, or without.
-use Rattle.std.specs.Prelude.{◌≡◌, ◌<◌, ℕ, Bool, true, false, nat_lt, List, [], length, slice_get, slice_index, Option, Some, None, IfSome, option_map}
+use Rattle.std.specs.Prelude.{◌≡◌, ◌<◌, ℕ, Bool, true, false, nat_lt, List, length, slice_get, slice_index, Option, Some, None, option_map}
 use Rattle.nova_objects.specs.declared.object.Object.{Object}
 use Rattle.nova_model.specs.Capabilities.{is_vcpu}
-use Rattle.nova_model.specs.State.{KernelState, budget_at, context, context_at, entry, transfer_at}
-use Rattle.nova_model.specs.Times.{next_moment}
+use Rattle.nova_model.specs.State.{KernelState, budget_at, context, context_at, deadline_of, entry, transfer_at}
+use Rattle.nova_model.specs.Times.{Times}
 use Rattle.nova_model.specs.declared.budget.Budget.{Budget}
-use Rattle.nova_model.specs.declared.context.EcState.{EcState}
-use Rattle.law_alike.specs.Alike.{ArePeers}
+use Rattle.law_alike.specs.Alike.{ArePeers, IsAlarmAlike, IsDeadlineAlike}
 use Rattle.law_sameness.specs.Counts.{Counts, counts_of}
 
 -- x0 of each execution context is 0
@@ -25,10 +24,9 @@ count_in (Some n) = n
 abbrev pub stirs_at : KernelState → ℕ → ℕ
 stirs_at k n = count_in (entry (slice_get k.stirs.guests n))
 
--- of a number: the same execution context, of a processor that is there, message words, place in items, identifier, turns that are left, and semaphore
+-- of a number: the same execution context, message words, place in items, identifier, turns that are left, and semaphore
 pub record IsSameAt (a b : KernelState) (n : ℕ) : Type 0 where
   pub context : context_at a n ≡ context_at b n
-  pub processor : IfSome (context_at a n) (λ (x : EcState). x.cpu < a.cpus)
   pub words : entry (slice_get a.messages n) ≡ entry (slice_get b.messages n)
   pub transfer : transfer_at a n ≡ transfer_at b n
   pub identifier : entry (slice_get a.identifiers n) ≡ entry (slice_get b.identifiers n)
@@ -69,7 +67,15 @@ pub record AreInStep (objects : List Object) (t u : Counts) : Type 0 where
   pub order : (m n : ℕ) → IsInStep objects t.stamps u.stamps m n
   pub id : t.next_id ≡ u.next_id
 
--- nothing is to come: there are no sources, and no processor has a next moment
-pub record IsAtRest (k : KernelState) : Type 0 where
-  pub alarms : k.times.alarms ≡ []
-  pub none : (cpu : ℕ) → cpu < k.cpus → next_moment k.times cpu ≡ None
+-- MOMENTS: deadlines of the first so many numbers, and alarms
+
+-- each is the same
+pub record AreMomentsSame (n : ℕ) (t u : Times) : Type 0 where
+  pub deadlines : (ec : ℕ) → ec < n → deadline_of t ec ≡ deadline_of u ec
+  pub alarms : t.alarms ≡ u.alarms
+
+-- each is as far from its clock
+pub record AreMomentsAlike (n : ℕ) (t u : Times) : Type 0 where
+  pub deadlines : (ec : ℕ) → ec < n → IsDeadlineAlike t u (deadline_of t ec) (deadline_of u ec)
+  pub count : length t.alarms ≡ length u.alarms
+  pub alarms : (i : ℕ) → i < length t.alarms → IsAlarmAlike t u (slice_get t.alarms i) (slice_get u.alarms i)

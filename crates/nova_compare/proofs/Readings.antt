@@ -1,10 +1,10 @@
 -- What calls of a kernel tell of its state.
-use Rattle.std.proofs.Common.{◌≡◌, ℕ, ◌-◌, List, [], ◌∷◌, filter, length, map, ap, sym, ◌∙◌, refl, arith}
-use Rattle.std.specs.Prelude.{Bool, true, false, Option, Some, None, is_none, option_map, slice_index}
+use Rattle.std.proofs.Common.{◌≡◌, ℕ, List, filter, length, map, ap, sym, ◌∙◌, refl}
+use Rattle.std.specs.Prelude.{Bool, true, false, Option, Some, None, option_map, slice_index}
 use Rattle.std.specs.Bool.{OnTrue}
+use Rattle.std.proofs.lemmas.List.{length-map}
 use Rattle.nova_model.specs.Semaphores.{semaphore_in}
 use Rattle.nova_model.specs.State.{KernelState, Semaphore, context_at, context_in}
-use Rattle.nova_model.specs.Times.{Times, clock, next_moment, until_due}
 use Rattle.nova_model.specs.declared.context.EcState.{EcState}
 use Rattle.nova_model.specs.declared.times.Alarm.{Alarm}
 use Rattle.nova_model.specs.declared.times.AlarmState.{AlarmState}
@@ -13,17 +13,8 @@ use Rattle.nova_model.specs.declared.delegation.Derivation.{Derivation}
 use Rattle.nova_nodes.proofs.Rising.{Rise, found_none, least_found}
 use Rattle.law_sameness.specs.States.{AreZero}
 
-pub no_source : (xs : List AlarmState) (ys : List Alarm) → ys ≡ map (λ (a : AlarmState). a.alarm) xs → length ys ≡ 0 → xs ≡ []
-no_source [] ys is none = refl
-no_source (x ∷ xs) ys is none = absurd (let long = ap length is in omega (arith, long, none))
-
-no_moment : (o : Option ℕ) (n : ℕ) → is_none (option_map (λ m. m - n) o) ≡ true → o ≡ None
-no_moment None n is = refl
-no_moment (Some m) n is = absurd (cc)
-
-pub rests : (r : Bool) (t : Times) (cpu : ℕ) → r ≡ is_none (until_due t cpu) → OnTrue r (next_moment t cpu ≡ None)
-rests true t cpu is = no_moment (next_moment t cpu) (clock t cpu) (sym is)
-rests false t cpu is = tt
+pub count_alarms : (xs : List AlarmState) (ys : List Alarm) (n : ℕ) → ys ≡ map (λ (a : AlarmState). a.alarm) xs → n ≡ length ys → length xs ≡ n
+count_alarms xs ys n is count = sym (count ∙ ap length is ∙ length-map xs (λ (a : AlarmState). a.alarm))
 
 zero_at : (k : KernelState) (n : ℕ) (x : EcState) → AreZero k → context_at k n ≡ Some x → slice_index x.regs.x 0 ≡ 0
 zero_at k n x zero there = ap (λ (o : Option EcState). slice_index (context_in o).regs.x 0) (sym there) ∙ zero n

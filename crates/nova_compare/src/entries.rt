@@ -1,4 +1,4 @@
-ghost use Rattle.std.specs.Prelude.{◌≡◌, ◌<◌, ℕ, IfSome, length, slice_get};
+ghost use Rattle.std.specs.Prelude.{◌≡◌, ◌<◌, ℕ, length, slice_get};
 ghost use Rattle.std.specs.Bool.{OnTrue};
 ghost use Rattle.nova_model.specs.State.{context, context_at, entry, transfer_at};
 ghost use Rattle.nova_model.specs.Semaphores.{semaphore};
@@ -8,19 +8,18 @@ use crate::contexts::same_context;
 use nova_kernel::{Kernel, Transfer, Utcb};
 use std::alloc::Global;
 
-/// Whether `a` and `b` have the same execution context of number `n`, of a processor that is there, or none.
+/// Whether `a` and `b` have the same execution context of number `n`, or none.
 #[tactic(auto, using(crate::proofs::Readings::zeros_at))]
 fn same_context_at(a: &Kernel, b: &Kernel, n: u32) -> bool
     requires first { AreZero a.now.state }
     requires second { AreZero b.now.state }
-    ensures same { OnTrue result (context_at a.now.state n ≡ context_at b.now.state n) }
-    ensures processor { OnTrue result (IfSome (context_at a.now.state n) (λ x. x.cpu < a.now.state.cpus)) }
+    ensures { OnTrue result (context_at a.now.state n ≡ context_at b.now.state n) }
 {
     match a.ec(n) {
         None => b.ec(n).is_none(),
         Some(context) => match b.ec(n) {
             None => false,
-            Some(other) => context.cpu < a.cpus() && same_context(context, other),
+            Some(other) => same_context(context, other),
         },
     }
 }

@@ -10,7 +10,7 @@ use crate::reading::are_read_alike;
 use crate::spares::{Spares, copied};
 use crate::tally::{Tally, at_boot};
 use crate::ticks::tells_ticks;
-use crate::times::is_at_rest;
+use crate::times::{are_moments_alike, same_moments};
 use nova_kernel::{Event, Kernel, Turn};
 use std::alloc::{AllocError, Global};
 use std::marker::Model;
@@ -169,24 +169,22 @@ impl Vertex {
         }
     }
 
-    /// Whether the vertex and `other` are seen to be in the same state. They are not seen to be where there are sources, where a processor has
-    /// something to come, and where memory is refused.
+    /// Whether the vertex and `other` are seen to be in the same state. They are not seen to be where memory is refused.
     pub fn is_same(&self, other: &Vertex) -> bool
         ensures { OnTrue result (self.now ≡ other.now) }
     {
         law_sameness::states_that_are_read_and_counted_alike_are_the_same();
         let a = self.kernel();
         let b = other.kernel();
+        let count = a.objects().len() as u32;
         a.turns() == b.turns()
             && self.tally.is_same(&other.tally)
-            && is_at_rest(a)
-            && is_at_rest(b)
+            && same_moments(a, b, count)
             && are_read_alike(self.alloc, a, b)
-            && same_counts(a, b, a.objects().len() as u32)
+            && same_counts(a, b, count)
     }
 
-    /// Whether the vertex and `other` are seen to be in alike states. They are not seen to be where there are sources, where a processor has
-    /// something to come, and where memory is refused.
+    /// Whether the vertex and `other` are seen to be in alike states. They are not seen to be where memory is refused.
     pub fn is_alike(&self, other: &Vertex) -> bool
         ensures { OnTrue result (IsAlike self.now other.now) }
     {
@@ -194,8 +192,7 @@ impl Vertex {
         let a = self.kernel();
         let b = other.kernel();
         self.tally.is_in_step(&other.tally, a.objects())
-            && is_at_rest(a)
-            && is_at_rest(b)
+            && are_moments_alike(a, b, a.objects().len() as u32)
             && are_read_alike(self.alloc, a, b)
     }
 

@@ -17,7 +17,6 @@ from questions import Question
 
 ENDS = Question(("ends",))
 ORDERS = TOOL.parent / "orders"
-HEAD = re.compile(r"outcome \d+: ([\d,]+) orders?; ")
 # More changes of processor than any order of the examples has that are run by each order.
 CHANGES = "40"
 
@@ -65,16 +64,13 @@ def compared(first: int, count: int, program: Path, replayer: Replayer) -> Compa
     return done
 
 
-def by_each_order(scenario: Path, replayer: Replayer) -> dict[tuple[str, ...], int]:
-    """The outcomes of a scenario by `tools/orders`, which runs each order to rest by itself, and of how many orders each is."""
+def by_each_order(scenario: Path, replayer: Replayer) -> set[tuple[str, ...]]:
+    """The outcomes of a scenario by `tools/orders`, which runs each order to rest by itself."""
     words = ["--switches", CHANGES, "--by", "states,semaphores,consoles", "--output", str(replayer.folder), "--program", str(replayer.nova)]
     words += ["--stays", str(replayer.debug)] if replayer.debug else []
     told = subprocess.run([sys.executable, str(ORDERS), "explore", str(scenario), *words], capture_output=True, text=True, check=True).stdout
-    found: dict[tuple[str, ...], int] = {}
+    found = set()
     for part in re.split(r"\n(?=outcome \d)", told)[1:]:
-        head, *lines = part.splitlines()
-        rows = [line.split("#")[0].split() for line in lines if not line.startswith("  parts")]
-        outcome = tuple(" ".join(row[:2] + row[3:] if row[0] == "ec" else row) for row in rows)
-        count = HEAD.match(head)
-        found[outcome] = int(count[1].replace(",", "")) if count else 0
+        rows = [line.split("#")[0].split() for line in part.splitlines()[1:] if not line.startswith("  parts")]
+        found.add(tuple(" ".join(row[:2] + row[3:] if row[0] == "ec" else row) for row in rows))
     return found

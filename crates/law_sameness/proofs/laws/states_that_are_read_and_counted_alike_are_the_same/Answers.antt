@@ -2,5 +2,4 @@ use Rattle.law_sameness.proofs.Same.{same_state}
 use Rattle.law_sameness.proofs.laws.states_that_are_read_and_counted_alike_are_the_same.Goals as goal
 
 pub returns : goal.returns
-returns c = λ a b.
-    same_state a b c.the_first_that_is_to_come_is_due.ensures.none c.the_first_that_is_to_come_is_due.ensures.all
+returns c = same_state

@@ -1,0 +1,13 @@
+use Rattle.std.proofs.Common.{ℕ}
+use Rattle.nova_model.specs.State.{deadline_of}
+use Rattle.law_alike.specs.Alike.{IsDeadlineAlike}
+use Rattle.nova_compare.proofs.Places.{below_none, below_on}
+use Rattle.nova_compare.proofs.times.are_deadlines_alike.Goals as goal
+
+pub loop-ec-init : goal.loop-ec-init
+loop-ec-init c = below_none _
+
+pub loop-ec-preserved : goal.loop-ec-preserved
+loop-ec-preserved c =
+    below_on (λ (n : ℕ). IsDeadlineAlike c.args.a.now.state.times c.args.b.now.state.times (deadline_of c.args.a.now.state.times n) (deadline_of c.args.b.now.state.times n)) c.loop-ec.ec c.loop-ec.invariant
+    c.if-not-is_deadline_alike.ensures
