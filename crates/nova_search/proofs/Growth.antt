@@ -81,7 +81,7 @@ grows_by old new place cpu t turns (inl same) is = subst (λ (l : List Found). G
 grows_by old new place cpu t turns (inr (f, by, more)) is =
     record { more = state_of f ∷ []; whole = ap states_of more ∙ states_more old f; taken = (ap (λ (s : KernelState). s.turns) by.state ∙ is, tt) }
 
-keeps_by : (old new : List Found) (place cpu : ℕ) (s t : KernelState) → IsMore old place cpu t new → cpu < s.cpus → IsSuccessor s cpu t → Contains (states_of old) s →
+pub keeps_by : (old new : List Found) (place cpu : ℕ) (s t : KernelState) → IsMore old place cpu t new → cpu < s.cpus → IsSuccessor s cpu t → Contains (states_of old) s →
     Keeps (states_of old) (states_of new)
 keeps_by old new place cpu s t (inl same) is next there = subst (λ (l : List Found). Keeps (states_of old) (states_of l)) (sym same) (same_keeps (states_of old))
 keeps_by old new place cpu s t (inr (f, by, more)) is next there = record {

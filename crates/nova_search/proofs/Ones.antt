@@ -17,6 +17,10 @@ pub one_itself : ((k : KernelState) → IsAlike k k) → (m : Merging) (s : Kern
 one_itself alike Same s = refl
 one_itself alike Alike s = alike s
 
+pub one_back : ((k l : KernelState) → IsAlike k l → IsAlike l k) → (m : Merging) (s t : KernelState) → IsOne m s t → IsOne m t s
+one_back alike Same s t is = sym is
+one_back alike Alike s t is = alike s t is
+
 pub one_through : ((k l n : KernelState) → IsAlike k l → IsAlike l n → IsAlike k n) → (m : Merging) (s t u : KernelState) → IsOne m s t → IsOne m t u → IsOne m s u
 one_through alike Same s t u first second = first ∙ second
 one_through alike Alike s t u first second = alike s t u first second

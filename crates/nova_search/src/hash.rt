@@ -1,6 +1,6 @@
 use crate::merging::Merging;
 use nova_compare::Vertex;
-use nova_kernel::{EcState, Kernel, LogByte, State};
+use nova_kernel::{AlarmState, EcState, Kernel, LogByte, State};
 
 /// The hash of no words.
 const FIRST: u64 = 0xcbf2_9ce4_8422_2325;
@@ -41,10 +41,40 @@ fn with_context(hash: u64, context: &EcState) -> u64 {
     hash
 }
 
+/// `hash` with how far the deadline of the execution context `ec` is from its clock, before or after, where it waits to one.
+fn with_deadline(hash: u64, kernel: &Kernel, ec: u32) -> u64 {
+    match kernel.deadline(ec) {
+        Some(deadline) => with(hash, deadline.at.wrapping_sub(kernel.clock(deadline.cpu))),
+        None => hash,
+    }
+}
+
+/// `hash` with how often `alarm` rang, and how far its next moment is from its clock, where it goes on.
+fn with_alarm(hash: u64, kernel: &Kernel, alarm: &AlarmState) -> u64 {
+    let hash = with(hash, alarm.rings);
+    if alarm.rings < alarm.alarm.count {
+        with(hash, alarm.next.wrapping_sub(kernel.clock(alarm.alarm.cpu)))
+    } else {
+        hash
+    }
+}
+
+/// `hash` with the alarms.
+fn with_alarms(hash: u64, kernel: &Kernel) -> u64 {
+    let mut hash = hash;
+    let count = u32::try_from(kernel.sources().len()).unwrap_or(u32::MAX);
+    for number in 0..count {
+        if let Some(alarm) = kernel.alarm(number) {
+            hash = with_alarm(hash, kernel, &alarm);
+        }
+    }
+    hash
+}
+
 /// `hash` with the object of number `n`: an execution context, a scheduling context or a semaphore.
 fn with_object(hash: u64, kernel: &Kernel, n: u32) -> u64 {
     if let Some(context) = kernel.ec(n) {
-        return with_context(hash, context);
+        return with_deadline(with_context(hash, context), kernel, n);
     }
     if let Some(left) = kernel.left(n) {
         return with(hash, u64::from(left));
@@ -91,5 +121,5 @@ pub(crate) fn hash_of(vertex: &Vertex, merging: Merging) -> u64 {
     for frame in 0..kernel.ram() {
         hash = with_frame(hash, kernel.frame(frame));
     }
-    with_log(hash, kernel.log())
+    with_log(with_alarms(hash, kernel), kernel.log())
 }

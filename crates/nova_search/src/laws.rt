@@ -2,21 +2,27 @@ ghost use Rattle.std.specs.Prelude.{◌≡◌, ◌+◌, ◌<◌, ◌≤◌, ℕ,
 ghost use Rattle.nova_model.specs.Choice.{is_quiet};
 ghost use Rattle.nova_model.specs.State.{KernelState};
 ghost use Rattle.nova_model.specs.Runs.{run};
-ghost use Rattle.nova_search.specs.Merged.{IsOne};
+ghost use Rattle.nova_search.specs.Merged.{HasOne, IsApt, IsOne};
 ghost use Rattle.nova_search.specs.Searches.{AreAllWithin, AreProcessors};
 ghost use Rattle.nova_search.specs.declared.merging.Merging.{Merging};
-ghost use Rattle.nova_search.specs.Reductions.{IsCovered, IsReduction, IsStill, Swaps, Touch};
+ghost use Rattle.nova_search.specs.Reductions.{IsCovered, IsReduction, IsStill, Swaps};
 
-/// A reduced search expands some states by the turn of one processor alone, where that turn touches nothing that any noted turn of
-/// another processor touches. Where turns that are apart may change places, each turn of every order was noted, and some turns more
-/// lead to a state that was found; and where no processor has a turn to take after an order, the state after it was itself found.
-pub fn reduced_searches_are_complete()
-    ensures covered { (n : ℕ) (touch : KernelState → ℕ → Touch) (noted lone : ℕ → Touch → Bool) (rank : KernelState → ℕ) (states : List KernelState) → Swaps touch
-        → IsReduction n touch noted lone rank states → (s : KernelState) (order : List ℕ) → Contains states s → AreProcessors n order → IsCovered n touch noted states s order }
-    ensures still { (n : ℕ) (touch : KernelState → ℕ → Touch) (noted lone : ℕ → Touch → Bool) (rank : KernelState → ℕ) (states : List KernelState) → Swaps touch
-        → IsReduction n touch noted lone rank states → (s : KernelState) (order : List ℕ) → Contains states s → AreProcessors n order → IsStill n (run s order)
-        → Contains states (run s order) }
-{}
+use crate::merging::states_are_one;
+use crate::notes::Notes;
+
+/// A reduced search expands some states by the turn of one processor alone, where what that turn touches is apart from all that was noted of other
+/// processors; each leads to a later place. Where turns that are apart may change places, each turn of every order was noted, and of some turns more, which lead
+/// to a state that is one with one that was found; and where no processor has a turn to take after an order, the state after it is itself one with one.
+pub fn reduced_searches_are_complete<N: Notes>()
+    ensures covered { (noted lone : ℕ → N.Touch → Bool) (m : Merging) (k : KernelState) (states : List KernelState) → IsApt k → Swaps N.Touch N.touched N.apart m
+        → IsReduction N.Touch N.touched N.apart noted lone m k states → (order : List ℕ) → AreProcessors k.cpus order
+        → IsCovered N.Touch N.touched noted m k.cpus states k order }
+    ensures still { (noted lone : ℕ → N.Touch → Bool) (m : Merging) (k : KernelState) (states : List KernelState) → IsApt k → Swaps N.Touch N.touched N.apart m
+        → IsReduction N.Touch N.touched N.apart noted lone m k states → (order : List ℕ) → AreProcessors k.cpus order → IsStill k.cpus (run k order)
+        → HasOne m states (run k order) }
+{
+    states_are_one();
+}
 
 /// A test of a state and a processor that fails in every state that was found fails after every order within the limit, where it says the same of states
 /// that are one.
@@ -27,11 +33,12 @@ pub fn what_is_in_no_state_is_in_no_order()
         → (order : List ℕ) (cpu : ℕ) → AreProcessors k.cpus order → k.turns + length order ≤ limit → cpu < k.cpus → test (run k order) cpu ≡ false }
 {}
 
-/// Where the kernel is quiet after an order, a reduced search found the state after it.
-pub fn quiet_ends_are_found()
-    ensures { (n : ℕ) (touch : KernelState → ℕ → Touch) (noted lone : ℕ → Touch → Bool) (rank : KernelState → ℕ) (states : List KernelState) → Swaps touch
-        → IsReduction n touch noted lone rank states → (s : KernelState) (order : List ℕ) → Contains states s → AreProcessors n order
-        → (run s order).cpus ≡ n → is_quiet (run s order) ≡ true → Contains states (run s order) }
+/// Where the kernel is quiet after an order, a reduced search found a state that is one with the state after it.
+pub fn quiet_ends_are_found<N: Notes>()
+    ensures { (noted lone : ℕ → N.Touch → Bool) (m : Merging) (k : KernelState) (states : List KernelState) → IsApt k → Swaps N.Touch N.touched N.apart m
+        → IsReduction N.Touch N.touched N.apart noted lone m k states → (order : List ℕ) → AreProcessors k.cpus order
+        → is_quiet (run k order) ≡ true → HasOne m states (run k order) }
 {
+    states_are_one();
     law_turns::quiet_is_every_processor_idle();
 }

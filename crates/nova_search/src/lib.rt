@@ -13,6 +13,7 @@ mod hash;
 mod index;
 mod laws;
 mod merging;
+mod notes;
 mod path;
 
 pub use again::{first_goal, kernel_at};
@@ -25,4 +26,5 @@ pub use laws::{
     quiet_ends_are_found, reduced_searches_are_complete, what_is_in_no_state_is_in_no_order,
 };
 pub use merging::Merging;
+pub use notes::Notes;
 pub use path::path_to;

@@ -53,10 +53,11 @@ impl Merging {
     }
 }
 
-/// A state is one with itself, and with what is one with a state that is. Turns lead from states that are one to states that are one, unless they part; and
+/// A state is one with itself, and with what is one with a state that is; states are one both ways. Turns lead from states that are one to states that are one, unless they part; and
 /// where no processor has a turn to take in one state, none has in a state that is one with it.
 pub(crate) fn states_are_one()
     ensures reflexive { (m : Merging) (s : KernelState) → IsOne m s s }
+    ensures symmetric { (m : Merging) (s t : KernelState) → IsOne m s t → IsOne m t s }
     ensures transitive { (m : Merging) (s t u : KernelState) → IsOne m s t → IsOne m t u → IsOne m s u }
     ensures turns { (m : Merging) (s t : KernelState) (cpu : ℕ) → IsApt s → IsApt t → IsOne m s t → StaysOne m s cpu → IsOne m (after s cpu) (after t cpu) }
     ensures apt { (s : KernelState) (cpu : ℕ) → IsApt s → IsApt (after s cpu) }

@@ -1,8 +1,11 @@
-use Rattle.nova_search.proofs.Ones.{apt_on, as_one, one_itself, one_through, still_as_one}
+use Rattle.nova_search.proofs.Ones.{apt_on, as_one, one_back, one_itself, one_through, still_as_one}
 use Rattle.nova_search.proofs.merging.states_are_one.Goals as goal
 
 pub returns-clause-reflexive : goal.returns-clause-reflexive
 returns-clause-reflexive c = one_itself c.alikeness_is_an_equivalence.ensures.reflexive
+
+pub returns-clause-symmetric : goal.returns-clause-symmetric
+returns-clause-symmetric c = one_back c.alikeness_is_an_equivalence.ensures.symmetric
 
 pub returns-clause-transitive : goal.returns-clause-transitive
 returns-clause-transitive c = one_through c.alikeness_is_an_equivalence.ensures.transitive
