@@ -9,7 +9,7 @@ use Rattle.nova_model.specs.State.{KernelState, context_at}
 use Rattle.nova_model.specs.declared.context.EcState.{EcState}
 use Rattle.nova_report.specs.Report.{console_line, semaphore_of}
 use Rattle.law_alike.specs.Alike.{IsAlike, uncounted}
-use Rattle.nova_recording.specs.declared.watches.Watch.{Watch}
+use Rattle.nova_recording.specs.declared.wants.Watch.{Watch}
 use Rattle.nova_asking.specs.Locations.{another_is_at, is_at, is_at_by, is_there_by, next_actor, two_are_at}
 use Rattle.nova_asking.specs.Outcomes.{outcome, state_of}
 use Rattle.nova_asking.specs.Questions.{IsOfState, has_context, has_word, is_dead, is_left, is_other_dead, is_so, shown, some_context, waits}

@@ -5,7 +5,7 @@ use Rattle.nova_model.specs.State.{KernelState, context_at}
 use Rattle.nova_model.specs.declared.context.EcState.{EcState}
 use Rattle.nova_recording.specs.Accesses.{accessed}
 use Rattle.nova_recording.specs.Watches.{is_seen_in}
-use Rattle.nova_recording.specs.declared.watches.Watch.{Watch}
+use Rattle.nova_recording.specs.declared.wants.Watch.{Watch}
 use Rattle.nova_deeds.specs.Acts.{is_executing}
 use Rattle.nova_asking.specs.Locations.{next_actor}
 

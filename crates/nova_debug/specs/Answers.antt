@@ -10,7 +10,7 @@ use Rattle.nova_recording.specs.declared.preview.Access.{Access as Accessed}
 use Rattle.nova_recording.specs.declared.wants.Search.{Search}
 use Rattle.nova_recording.specs.declared.wants.Want.{Want}
 use Rattle.nova_recording.specs.declared.wants.Want.TheVariants as want
-use Rattle.nova_recording.specs.declared.watches.Watch.{Watch}
+use Rattle.nova_recording.specs.declared.wants.Watch.{Watch}
 use Rattle.nova_report.specs.Words.{line_feed}
 use Rattle.nova_telling.specs.Told.{access_line, code_line, page_line, told_at}
 use Rattle.rv_model.specs.Codes.{instr_of}

@@ -2,7 +2,7 @@
 use Rattle.std.specs.Prelude.{ℕ, ◌+◌, ◌%◌, ◌==◌, ◌&&◌, Bool, false, nat_le, nat_lt, if◌then◌else◌, List, Option, Some, None, is_some}
 use Rattle.std.specs.List.{list_any}
 use Rattle.nova_recording.specs.declared.preview.Access.{Access}
-use Rattle.nova_recording.specs.declared.watches.Watch.{Watch}
+use Rattle.nova_recording.specs.declared.wants.Watch.{Watch}
 
 -- bytes of a frame from an offset on share one with those that are watched
 abbrev pub overlaps : ℕ → ℕ → Watch → Bool

@@ -3,16 +3,11 @@
 
 mod copies;
 mod events;
-mod going;
 pub mod laws;
 mod preview;
 mod recording;
-mod search;
-mod sizes;
 mod wants;
-mod watches;
 
 pub use preview::Access;
 pub use recording::Recording;
-pub use wants::{Next, Search, Want, is_passing};
-pub use watches::{Watch, is_next_seen};
+pub use wants::{Next, Search, Want, Watch, is_next_seen, is_passing};

@@ -1,12 +1,13 @@
-ghost use Rattle.std.specs.Prelude.{◌≡◌, ◌+◌, ◌<◌, ◌≤◌, [], length, max, option_map, IfOk, OnOk, OnErr};
+ghost use Rattle.std.specs.Prelude.{◌≡◌, ◌+◌, ◌<◌, ◌≤◌, [], length, max, option_map, IfOk, OnOk, OnErr, ◌⊎◌};
 ghost use Rattle.nova_model.specs.Delegations.{reach};
 ghost use Rattle.nova_recording.specs.Copies.{sizes_of};
 ghost use Rattle.nova_recording.specs.Recordings.{IsAt, IsBounded, IsDone, IsSameRun};
+ghost use Rattle.nova_recording.specs.Wants.{IsFirst, IsLast, IsOnTheWay, latest};
 
-use crate::copies::{Copies, Kept};
+use crate::copies::{Copies, Kept, bytes_of};
 use crate::events::listed;
 use crate::preview::Preview;
-use crate::sizes::bytes_of;
+use crate::wants::Search;
 use nova_finished::Finished;
 use nova_kernel::{Event, Kernel, Rights};
 use nova_trace::Trace;
@@ -211,5 +212,122 @@ impl Recording {
         let before = self.preview.replace(kernel);
         self.turn = turn;
         let_go(before);
+    }
+
+    /// Whether a state is kept of a turn after the present one and up to `to`.
+    fn is_kept_before(&self, to: usize) -> bool {
+        matches!(self.copies.newest(to), Some(kept) if kept.turn > self.turn())
+    }
+
+    /// Begins anew, from the state in which the run began.
+    fn restart(&mut self) -> Result<(), AllocError>
+        ensures turn { OnOk result (self.new.turn ≡ 0) }
+        ensures err { OnErr result (self.new ≡ self.old) }
+        ensures same { IsSameRun self.old self.new }
+        ensures bound { IsBounded self.old self.new }
+    {
+        let kernel = self.opening().copy()?;
+        self.take(0, kernel);
+        Ok(())
+    }
+
+    /// Takes the newest state that is kept of the turns up to `to`, or begins anew.
+    fn resume(&mut self, to: usize) -> Result<(), AllocError>
+        ensures turn { OnOk result (self.new.turn ≤ to) }
+        ensures err { OnErr result (self.new ≡ self.old) }
+        ensures same { IsSameRun self.old self.new }
+        ensures bound { IsBounded self.old self.new }
+    {
+        let Some(kept) = self.copies.newest(to) else {
+            return self.restart();
+        };
+        let turn = kept.turn;
+        let kernel = kept.kernel.copy()?;
+        self.take(turn, kernel);
+        Ok(())
+    }
+
+    /// Goes on to the turn `to`, which is not before the present one.
+    fn forward(&mut self, to: usize) -> Result<(), AllocError>
+        requires ahead { self.old.turn ≤ to }
+        requires within { to ≤ length self.old.events }
+        ensures turn { OnOk result (self.new.turn ≡ to) }
+        ensures way { self.new.turn ≤ to }
+        ensures same { IsSameRun self.old self.new }
+        ensures bound { IsBounded self.old self.new }
+    {
+        self.reserve(to - self.turn())?;
+        while self.turn() < to {
+            self.step()?;
+        }
+        Ok(())
+    }
+
+    /// Goes to the state after `to` turns, which the run has, in either direction. Where memory runs out it is at the same turn, or at a turn that is
+    /// not after `to`.
+    pub fn go(&mut self, to: usize) -> Result<(), AllocError>
+        requires within { to ≤ length self.old.events }
+        ensures turn { OnOk result (self.new.turn ≡ to) }
+        ensures way { (self.new.turn ≡ self.old.turn) ⊎ (self.new.turn ≤ to) }
+        ensures same { IsSameRun self.old self.new }
+        ensures bound { IsBounded self.old self.new }
+    {
+        if to < self.turn() || self.is_kept_before(to) {
+            self.resume(to)?;
+        }
+        self.forward(to)
+    }
+
+    /// The present turn where it does something that `search` looks for, else the turn `found` before.
+    fn latest(&mut self, search: &Search, found: Option<usize>) -> Option<usize>
+        ensures latest { result ≡ latest search.now self.old found }
+        ensures kept { self.new ≡ self.old }
+    {
+        if self.is_wanted(search) {
+            Some(self.turn())
+        } else {
+            found
+        }
+    }
+
+    /// Goes on to the first turn before `to` that does what `search` looks for, the present one included; and whether there is one. Where there
+    /// is none it is in the state of `to`. Where memory runs out it is in the state of a turn on the way, and none of those that were passed
+    /// does.
+    pub fn run(&mut self, search: &Search, to: usize) -> Result<bool, AllocError>
+        requires ahead { self.old.turn ≤ to }
+        requires within { to ≤ length self.old.events }
+        ensures first { IfOk result (IsFirst self.old.opening self.old.events search.now self.old.turn to self.new.turn) }
+        ensures way { IsOnTheWay self.old.opening self.old.events search.now self.old.turn to self.new.turn }
+        ensures same { IsSameRun self.old self.new }
+        ensures bound { IsBounded self.old self.new }
+    {
+        self.reserve(to - self.turn())?;
+        while self.turn() < to {
+            if self.is_wanted(search) {
+                return Ok(true);
+            }
+            self.step()?;
+        }
+        Ok(false)
+    }
+
+    /// Goes on to the turn `to`, and tells the last turn before it that does something that `search` looks for, of the present turn and those after
+    /// it. Where memory runs out, it is in the state of a turn on the way.
+    pub fn last(&mut self, search: &Search, to: usize) -> Result<Option<usize>, AllocError>
+        requires ahead { self.old.turn ≤ to }
+        requires within { to ≤ length self.old.events }
+        ensures last { IfOk result (IsLast self.old.opening self.old.events search.now self.old.turn to) }
+        ensures turn { OnOk result (self.new.turn ≡ to) }
+        ensures way { (self.old.turn ≤ self.new.turn) × (self.new.turn ≤ to) }
+        ensures same { IsSameRun self.old self.new }
+        ensures bound { IsBounded self.old self.new }
+    {
+        self.reserve(to - self.turn())?;
+        let mut found = None;
+        while self.turn() < to {
+            found = self.latest(search, found);
+            self.step()?;
+        }
+        Ok(found)
     }
 }
