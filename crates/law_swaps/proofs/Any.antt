@@ -30,13 +30,14 @@ use Rattle.law_turns.specs.Moments.{IsEarly}
 use Rattle.law_turns.specs.Tables.{has_words}
 use Rattle.law_turns.proofs.Moments.{early_calm, next_clocks}
 use Rattle.law_turns.proofs.Setting.{entry_other, set_length}
+use Rattle.law_turns.proofs.Courses.{edited_length}
 use Rattle.law_isolation.specs.Sound.{IsSound}
 use Rattle.law_alike.specs.Alike.{AreStampsGiven, AreTimesAlike, IsAlike, TellsNoTicks, tells_ticks, uncounted}
 use Rattle.law_alike.proofs.Moments.{times_itself}
 use Rattle.law_alike.proofs.Turns.{itself}
 use Rattle.law_leases.proofs.Nearing.{turn_early}
 use Rattle.law_swaps.specs.Touches.{AreSwapped, ChangesWithin, IsPlain, IsTouched, Touch, are_apart, contexts_changed, frame_stored_to, processor_given}
-use Rattle.law_swaps.proofs.Beside.{Avoid, IsBeside, avoided, below_at, beside, calm_early, choice_beside, edits_length, joined_below, long_budgets, number_at, own_stays}
+use Rattle.law_swaps.proofs.Beside.{Avoid, IsBeside, avoided, below_at, beside, calm_early, choice_beside, joined_below, long_budgets, number_at, own_stays}
 use Rattle.law_swaps.proofs.Choosing.{IsHome, at_home, choice_same}
 use Rattle.law_swaps.proofs.Chosen.{chosen_still, somebody}
 use Rattle.law_swaps.proofs.Effecting.{with_store}
@@ -152,7 +153,7 @@ rests_any k p q a b c regs store stirs more t e other stirred sound h touch turn
     (λ s f is goes y z g has leads here. none_shared b.writes a.writes g f h.far.unwritten (stores_any k q b t e touch turning y z g has leads here) (h.within s f is goes)))
     ∙ sym (same (memory_after (address_space k c.actor) k.memory store)))
     ∙ ap₂ (λ (cs : Contexts) (ms : Messages). framed (turned k q t) cs ms (memory_with (memory_after (address_space k c.actor) k.memory store) other))
-    (sym (joined_set (all_edited k.contexts t.effect.edits) born c.actor (Some x) (subst (λ (n : ℕ). c.actor < n) (sym (edits_length k.contexts t.effect.edits)) below))
+    (sym (joined_set (all_edited k.contexts t.effect.edits) born c.actor (Some x) (subst (λ (n : ℕ). c.actor < n) (sym (edited_length k.contexts t.effect.edits)) below))
     ∙ ap (λ (l : Contexts). joined l born) (sym (edits_over k.contexts c.actor x t.effect.edits (avoided k t.effect p c.actor by.elsewhere number))))
     (sym (joined_put (put k.messages t.effect.words) c.actor own said (are_own (address_space k c.actor) c.actor store)
     (subst (λ (n : ℕ). c.actor < n) (sym (put_length k.messages t.effect.words ∙ long_messages k sound.kept ∙ sym sound.whole.places)) below))

@@ -33,6 +33,7 @@ use Rattle.law_turns.proofs.Deadlines.{at_home as at_own}
 use Rattle.law_turns.proofs.Setting.{entry_other, get_below, joined_length, joined_other, set_length}
 use Rattle.law_turns.proofs.TablesKept.{all_get}
 use Rattle.law_leases.proofs.Homes.{home}
+use Rattle.law_turns.proofs.Courses.{edited_length}
 use Rattle.law_swaps.specs.Touches.{ChangesWithin, IsMet, contexts_changed, has, processor_given}
 use Rattle.law_swaps.proofs.Charging.{IsOn, other_schedule, paid_other}
 use Rattle.law_swaps.proofs.Choosing.{at_home as home_of, candidate_at, choice_by}
@@ -97,10 +98,6 @@ pub edits_leave : (cs : Contexts) (es : Edits) (x : ℕ) → Avoid es x → ec_i
 edits_leave cs [] x far = refl
 edits_leave cs ((n, e) ∷ es) x far = edits_leave (edit_at cs n e) es x far.1 ∙ entry_other cs n x (edited (ec_of cs n) e) far.0
 
-pub edits_length : (cs : Contexts) (es : Edits) → length (all_edited cs es) ≡ length cs
-edits_length cs [] = refl
-edits_length cs ((n, e) ∷ es) = edits_length (edit_at cs n e) es ∙ set_length cs n (Some (edited (ec_of cs n) e))
-
 pub joined_below : {T : Type 0} (xs : List T) (o : Option T) (n : ℕ) → n < length xs → slice_get (joined xs o) n ≡ slice_get xs n
 joined_below xs None n below = refl
 joined_below xs (Some x) n below = joined_other xs x n (λ same. let at = same in absurd (omega (arith, at, below)))
@@ -108,7 +105,7 @@ joined_below xs (Some x) n below = joined_other xs x n (λ same. let at = same i
 -- where an object of another processor may join
 pub own_stays : (cs : Contexts) (es : Edits) (o : Option (Option EcState)) (x : ℕ) → Avoid es x → x < length cs → ec_in (joined (all_edited cs es) o) x ≡ ec_in cs x
 own_stays cs es o x far below =
-    ap (λ (y : Option (Option EcState)). entry y) (joined_below (all_edited cs es) o x (subst (λ (n : ℕ). x < n) (sym (edits_length cs es)) below)) ∙ edits_leave cs es x far
+    ap (λ (y : Option (Option EcState)). entry y) (joined_below (all_edited cs es) o x (subst (λ (n : ℕ). x < n) (sym (edited_length cs es)) below)) ∙ edits_leave cs es x far
 
 -- TURNS
 
@@ -151,8 +148,8 @@ turns_beside k e p x o kept els at =
   where
     long : (length (joined (all_edited k.contexts e.edits) o) ≡ length k.contexts) ⊎ (length (joined (all_edited k.contexts e.edits) o) ≡ suc (length k.contexts))
     long = elim (joined_by (all_edited k.contexts e.edits) o) [
-      | inl same ↦ inl (same ∙ edits_length k.contexts e.edits)
-      | inr more ↦ inr (more ∙ ap suc (edits_length k.contexts e.edits))
+      | inl same ↦ inl (same ∙ edited_length k.contexts e.edits)
+      | inr more ↦ inr (more ∙ ap suc (edited_length k.contexts e.edits))
     ]
 
 -- THE CHOICE
