@@ -25,31 +25,31 @@ pub data AreDeedsAlike (t u : Times) (d e : Deed) : Type 0 where
   Same : late d ≡ false → d ≡ e → AreDeedsAlike t u d e
   Later : (sm : ℕ) (a b : Deadline) → d ≡ Blocks sm (Some a) → e ≡ Blocks sm (Some b) → IsDeadlineAlike t u (Some a) (Some b) → AreDeedsAlike t u d e
 
-late_blank : (d : Deed) → late (blank d) ≡ late d
+pub late_blank : (d : Deed) → late (blank d) ≡ late d
 late_blank (Blocks sm None) = refl
 late_blank (Blocks sm (Some d)) = refl
 late_blank other = refl
 
-told_blank : (d : Deed) → tells_ticks (blank d) ≡ tells_ticks d
+pub told_blank : (d : Deed) → tells_ticks (blank d) ≡ tells_ticks d
 told_blank (Blocks sm None) = refl
 told_blank (Blocks sm (Some d)) = refl
 told_blank other = refl
 
-blank_plain : (d : Deed) → late d ≡ false → tells_ticks d ≡ false → blank d ≡ d
+pub blank_plain : (d : Deed) → late d ≡ false → tells_ticks d ≡ false → blank d ≡ d
 blank_plain (Tells call value) plain quiet = ap (λ (t : Bool). Tells call (if t then 0 else value)) quiet
 blank_plain (Blocks sm None) plain quiet = refl
 blank_plain (Blocks sm (Some d)) plain quiet = absurd (cc)
 blank_plain other plain quiet = refl
 
-abbrev ticks_of : Result Call Status → ℕ
+abbrev pub ticks_of : Result Call Status → ℕ
 ticks_of (Ok (asks.SmCtrl selector (act.DownWithin ticks))) = ticks
 ticks_of other = 0
 
-abbrev semaphore_of : Deed → ℕ
+abbrev pub semaphore_of : Deed → ℕ
 semaphore_of (Blocks sm until) = sm
 semaphore_of other = 0
 
-semaphore_blank : (d : Deed) → semaphore_of (blank d) ≡ semaphore_of d
+pub semaphore_blank : (d : Deed) → semaphore_of (blank d) ≡ semaphore_of d
 semaphore_blank (Blocks sm None) = refl
 semaphore_blank (Blocks sm (Some d)) = refl
 semaphore_blank other = refl

@@ -95,7 +95,7 @@ paid_in k os sc made =
     budgets_paid (grown_budgets k.budgets k.next_stamp made) sc (quantum_in (slice_get (joined os (option_map object_of made)) sc)) (stamp_with k.next_stamp made)
     (entry (slice_get (grown_budgets k.budgets k.next_stamp made) sc))
 
-long_budgets : (k : KernelState) → IsKept k → length k.budgets ≡ length k.objects
+pub long_budgets : (k : KernelState) → IsKept k → length k.budgets ≡ length k.objects
 long_budgets k kept = sym (length-map k.budgets is_some) ∙ ap length kept.tables.budgets ∙ length-map k.objects is_sc
 
 alike_turned : (k l : KernelState) (cpu : ℕ) (c d : Candidate) → IsKept k → IsKept l → AreStampsGiven k → AreStampsGiven l → IsAlike k l → Pair k l cpu c d → tells_ticks (deed k c.actor) ≡ false →

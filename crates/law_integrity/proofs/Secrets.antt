@@ -1,5 +1,5 @@
 -- The bytes of a frame that the context that acts doesn't reach influence nothing.
-use Rattle.std.proofs.Common.{◌≡◌, ℕ, ◌/◌, ◌%◌, ◌-◌, ◌==◌, zero, suc, List, [], ◌∷◌, ◌++◌, refl, sym, ap, ap₂, ◌∙◌, subst}
+use Rattle.std.proofs.Common.{◌≡◌, ℕ, ◌/◌, ◌%◌, ◌-◌, ◌==◌, List, [], ◌∷◌, ◌++◌, refl, sym, ap, ap₂, ◌∙◌, subst}
 use Rattle.std.specs.Prelude.{Bool, true, false, ◌≢◌, IsSome, is_some, slice_get, slice_set, option_map, option_and_then, Option, Some, None, if◌then◌else◌}
 use mathlib.Core.Path.{fun_ext}
 use Rattle.byteorder.specs.Endian.{little_bytes}
@@ -24,7 +24,7 @@ use Rattle.nova_model.specs.declared.times.Due.TheVariants as due
 use Rattle.law_forest.specs.Effects.{Edits, Falls, Passing, Ticks, edits_by, effect, memory_with, steps_by, store_by, store_words, words_by}
 use Rattle.law_forest.specs.Turns.{Turning, acting, passing, turned}
 use Rattle.law_forest.proofs.Turning.{acts_next, chosen_turn, due_turn, tick_turn}
-use Rattle.law_turns.proofs.Setting.{get_other, set_length}
+use Rattle.law_turns.proofs.Setting.{get_other, set_both, set_length, some_set}
 use Rattle.law_origins.specs.Giving.{Acts}
 use Rattle.law_integrity.specs.Rights.{PageLeadsTo}
 use Rattle.law_integrity.specs.Secrecy.{IsHidden, IsHiddenAlong, with_bytes}
@@ -79,21 +79,6 @@ words_same k ec frame bytes same deeds.Steps =
     by_store (Some s) = refl
 words_same k ec frame bytes same other = refl
 
--- one sets both
-set_both : {T : Type 0} (xs : List T) (e f : ℕ) (x y : T) → f ≢ e → slice_set (slice_set xs e x) f y ≡ slice_set (slice_set xs f y) e x
-set_both [] e f x y other = refl
-set_both (z ∷ xs) zero zero x y other = absurd (other refl)
-set_both (z ∷ xs) zero (suc f) x y other = refl
-set_both (z ∷ xs) (suc e) zero x y other = refl
-set_both {T} (z ∷ xs) (suc e) (suc f) x y other = ap (λ (l : List T). z ∷ l) (set_both xs e f x y (λ same. other (ap suc same)))
-
-set_there : {T : Type 0} (xs : List T) (e n : ℕ) (x : T) → is_some (slice_get (slice_set xs e x) n) ≡ is_some (slice_get xs n)
-set_there [] e n x = refl
-set_there (y ∷ xs) zero zero x = refl
-set_there (y ∷ xs) zero (suc n) x = refl
-set_there (y ∷ xs) (suc e) zero x = refl
-set_there (y ∷ xs) (suc e) (suc n) x = set_there xs e n x
-
 abbrev memory_of : Memory → ℕ → List ℕ → Memory
 memory_of m frame bytes = record m { ram = slice_set m.ram frame bytes }
 
@@ -135,7 +120,7 @@ foreign_same k ec frame g bytes (Some s) = by_frame (frame_for (address_space k 
         ≡ option_and_then (foreign_at k (pd_of k g) s) (option_and_then (in_ram k) o)
     by_frame None = refl
     by_frame (Some n) =
-        ap (λ (t : Bool). option_and_then (foreign_at k (pd_of k g) s) (if t then Some n else None)) (set_there k.memory.ram frame n bytes)
+        ap (λ (t : Bool). option_and_then (foreign_at k (pd_of k g) s) (if t then Some n else None)) (some_set k.memory.ram frame n bytes)
 
 stirred_same : (k : KernelState) (ec frame : ℕ) (bytes : List ℕ) → instruction (with_bytes k frame bytes) ec ≡ instruction k ec → (d : Deed) (g : ℕ) →
     is_stirred (with_bytes k frame bytes) ec d g ≡ is_stirred k ec d g

@@ -29,19 +29,19 @@ use Rattle.law_turns.specs.Keeping.{IsKept}
 use Rattle.law_turns.specs.Moments.{IsEarly}
 use Rattle.law_turns.specs.Tables.{has_words}
 use Rattle.law_turns.proofs.Moments.{early_calm, next_clocks}
-use Rattle.law_turns.proofs.Setting.{entry_other, set_length}
+use Rattle.law_turns.proofs.Setting.{entry_other, set_both, set_length}
 use Rattle.law_turns.proofs.Courses.{edited_length}
 use Rattle.law_isolation.specs.Sound.{IsSound}
 use Rattle.law_alike.specs.Alike.{AreStampsGiven, AreTimesAlike, IsAlike, TellsNoTicks, tells_ticks, uncounted}
 use Rattle.law_alike.proofs.Moments.{times_itself}
-use Rattle.law_alike.proofs.Turns.{itself}
+use Rattle.law_alike.proofs.Turns.{itself, long_budgets}
 use Rattle.law_leases.proofs.Nearing.{turn_early}
 use Rattle.law_swaps.specs.Touches.{AreSwapped, ChangesWithin, IsPlain, IsTouched, Touch, are_apart, contexts_changed, frame_stored_to, processor_given}
-use Rattle.law_swaps.proofs.Beside.{Avoid, IsBeside, avoided, below_at, beside, calm_early, choice_beside, joined_below, long_budgets, number_at, own_stays}
+use Rattle.law_swaps.proofs.Beside.{Avoid, IsBeside, avoided, below_at, beside, calm_early, choice_beside, joined_below, number_at, own_stays}
 use Rattle.law_swaps.proofs.Choosing.{IsHome, at_home, choice_same}
 use Rattle.law_swaps.proofs.Chosen.{chosen_still, somebody}
 use Rattle.law_swaps.proofs.Effecting.{with_store}
-use Rattle.law_swaps.proofs.Lists.{IsApart, apart, none_shared, set_both}
+use Rattle.law_swaps.proofs.Lists.{IsApart, apart, none_shared}
 use Rattle.law_swaps.proofs.Paying.{ArePaid, are_paid, joined_set, lefts_paid_both, order_paid_both}
 use Rattle.law_swaps.proofs.Plain.{answer_is, chosen_over, flipped, next_over, plain_step, stores_in, ticked_both}
 use Rattle.law_swaps.proofs.Seeing.{IsSeenSame, executes_same, frames_same, instruction_same, own_same, page_same, plain_same, reads_same, touched_same}

@@ -1,10 +1,9 @@
 -- What a turn of a processor leaves of another whose part it doesn't change: what is chosen there, that nothing is due, its contexts and their words.
 use Rattle.std.proofs.Common.{◌≡◌, ◌≢◌, ◌<◌, ◌≤◌, ℕ, zero, suc, ◌+◌, ◌-◌, List, [], ◌∷◌, ◌++◌, length, map, refl, sym, ap, ap₂, ◌∙◌, subst, inl, inr, arith}
-use Rattle.std.specs.Prelude.{◌⊎◌, Bool, true, false, ◌==◌, ◌&&◌, nat_le, is_some, slice_get, Option, Some, None, IfSome, IsSome, option_and_then, option_map, Contains, if◌then◌else◌}
+use Rattle.std.specs.Prelude.{◌⊎◌, Bool, true, false, ◌==◌, ◌&&◌, nat_le, slice_get, Option, Some, None, IfSome, IsSome, option_and_then, option_map, Contains, if◌then◌else◌}
 use Rattle.std.specs.List.{find}
 use Rattle.std.proofs.lemmas.Bool.{eqb-true}
 use Rattle.std.proofs.lemmas.Bool.Decides.{nat_tests}
-use Rattle.std.proofs.lemmas.List.{length-map}
 use Rattle.std.proofs.lemmas.Option.{same_Some}
 use Rattle.nova_ec.proofs.Ends.{found_more}
 use Rattle.nova_ec.proofs.Tables.{chase_ends, there_below}
@@ -12,7 +11,6 @@ use Rattle.nova_ec.proofs.Untouched.{same_acts, turns_stay}
 use Rattle.nova_ec.specs.Ways.{TurnsStay}
 use Rattle.nova_objects.specs.declared.object.Object.{Object}
 use Rattle.nova_objects.specs.declared.object.Object.TheVariants.{Sc}
-use Rattle.nova_model.specs.Capabilities.{is_sc}
 use Rattle.nova_model.specs.Choice.{Candidate, actor, candidate_of, candidate_with, choice, choose}
 use Rattle.nova_model.specs.Creation.{budget_of, context_of, object_of}
 use Rattle.nova_model.specs.Edges.{AreEdges, acts, cpu_in, edge, met, met_within, stays}
@@ -30,8 +28,9 @@ use Rattle.law_turns.specs.Keeping.{IsKept}
 use Rattle.law_turns.specs.Moments.{IsEarly}
 use Rattle.law_turns.specs.Tables.{Refers, cpu_of}
 use Rattle.law_turns.proofs.Deadlines.{at_home as at_own}
-use Rattle.law_turns.proofs.Setting.{entry_other, get_below, joined_length, joined_other, set_length}
+use Rattle.law_turns.proofs.Setting.{entry_other, get_below, joined_length, joined_other}
 use Rattle.law_turns.proofs.TablesKept.{all_get}
+use Rattle.law_alike.proofs.Turns.{long_budgets}
 use Rattle.law_leases.proofs.Homes.{home}
 use Rattle.law_turns.proofs.Courses.{edited_length}
 use Rattle.law_swaps.specs.Touches.{ChangesWithin, IsMet, contexts_changed, has, processor_given}
@@ -170,9 +169,6 @@ none_made k p n new.Pd far = refl
 none_made k p n (new.Ec pd cpu kind sp event) far = refl
 none_made k p n (new.Pt ec mtd ip) far = refl
 none_made k p n (new.Sm count) far = refl
-
-pub long_budgets : (k : KernelState) → IsKept k → length k.budgets ≡ length k.objects
-long_budgets k kept = sym (length-map k.budgets is_some) ∙ ap length kept.tables.budgets ∙ length-map k.objects is_sc
 
 pub budget_beside : (k : KernelState) (t : Turning) (p q sc : ℕ) → IsKept k → IsBeside k t p q → IsOn k.objects sc p → budget_at (turned k q t) sc ≡ budget_at k sc
 budget_beside k t p q sc kept b on = by_charge t.charge refl

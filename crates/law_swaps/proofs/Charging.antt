@@ -10,11 +10,10 @@ use Rattle.nova_model.specs.Turn.{budget_after, is_spent, quantum_in, stamp_afte
 use Rattle.nova_model.specs.declared.budget.Budget.{Budget}
 use Rattle.law_forest.specs.Turns.{budgets_charged, budgets_paid, stamp_charged, stamp_paid}
 use Rattle.law_turns.specs.Budgets.{left_in, stamp_in}
-use Rattle.law_turns.proofs.Setting.{get_other}
+use Rattle.law_turns.proofs.Setting.{get_other, set_both}
 use Rattle.law_alike.specs.Alike.{ArePeers}
 use Rattle.law_alike.proofs.Lists.{map_put}
 use Rattle.law_alike.proofs.Paying.{AreBelow, turned_ordered}
-use Rattle.law_swaps.proofs.Lists.{set_both}
 
 abbrev Budgets : Type 0
 Budgets = List (Option Budget)

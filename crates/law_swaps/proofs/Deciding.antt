@@ -5,7 +5,6 @@ use Rattle.std.proofs.lemmas.Option.{same_Some}
 use Rattle.rv_model.specs.Registers.{Registers}
 use Rattle.rv_model.specs.Step.{Store}
 use Rattle.nova_calls.specs.Hypercalls.{call_of}
-use Rattle.nova_calls.specs.declared.call.Call.{Call}
 use Rattle.nova_calls.specs.declared.call.Call.TheVariants as asks
 use Rattle.nova_calls.specs.declared.call.SmAction.TheVariants as act
 use Rattle.nova_range.specs.declared.status.Status.{Status}
@@ -26,8 +25,7 @@ use Rattle.nova_model.specs.declared.context.EcState.{EcState}
 use Rattle.nova_model.specs.declared.context.Mark.{Mark}
 use Rattle.nova_model.specs.declared.context.State.{State}
 use Rattle.nova_model.specs.declared.context.State.TheVariants.{Exiting, Granting, Helping, Ready, Replying, Sending}
-use Rattle.nova_model.specs.declared.deed.Deed.{Deed}
-use Rattle.nova_model.specs.declared.deed.Deed.TheVariants.{Blocks, Tells}
+use Rattle.nova_model.specs.declared.deed.Deed.TheVariants.{Blocks}
 use Rattle.nova_model.specs.declared.transfer.Delivery.{Delivery}
 use Rattle.nova_model.specs.declared.transfer.Transfer.{Transfer}
 use Rattle.law_forest.specs.Effects.{put, store_words}
@@ -37,6 +35,7 @@ use Rattle.law_turns.proofs.Setting.{entry_other, index_other}
 use Rattle.law_alike.specs.Alike.{tells_ticks}
 use Rattle.law_alike.proofs.Deciding.{blank, counting}
 use Rattle.law_alike.proofs.Deciding.{deed_same as counted_same}
+use Rattle.law_alike.proofs.Doing.{blank_plain, late_blank, semaphore_blank, semaphore_of, ticks_of, told_blank}
 use Rattle.law_alike.proofs.Late.{IsLateBy, late, late_deed}
 use Rattle.law_integrity.proofs.Deeds.{hypercall_same, over as over_memory}
 use Rattle.law_integrity.proofs.Deeds.{deed_same as memory_same}
@@ -102,35 +101,6 @@ deed_over k m ec reads = by_state (context k ec).state refl
     by_state other is = ap (deed_in (over_memory k m) ec) is ∙ sym (ap (deed_in k ec) is)
 
 -- OVER OTHER COUNTS
-
-late_blank : (d : Deed) → late (blank d) ≡ late d
-late_blank (Blocks sm None) = refl
-late_blank (Blocks sm (Some d)) = refl
-late_blank other = refl
-
-told_blank : (d : Deed) → tells_ticks (blank d) ≡ tells_ticks d
-told_blank (Blocks sm None) = refl
-told_blank (Blocks sm (Some d)) = refl
-told_blank other = refl
-
-blank_plain : (d : Deed) → late d ≡ false → tells_ticks d ≡ false → blank d ≡ d
-blank_plain (Tells call value) plain quiet = ap (λ (t : Bool). Tells call (if t then 0 else value)) quiet
-blank_plain (Blocks sm None) plain quiet = refl
-blank_plain (Blocks sm (Some d)) plain quiet = absurd (cc)
-blank_plain other plain quiet = refl
-
-abbrev ticks_of : Result Call Status → ℕ
-ticks_of (Ok (asks.SmCtrl selector (act.DownWithin ticks))) = ticks
-ticks_of other = 0
-
-abbrev semaphore_of : Deed → ℕ
-semaphore_of (Blocks sm until) = sm
-semaphore_of other = 0
-
-semaphore_blank : (d : Deed) → semaphore_of (blank d) ≡ semaphore_of d
-semaphore_blank (Blocks sm None) = refl
-semaphore_blank (Blocks sm (Some d)) = refl
-semaphore_blank other = refl
 
 -- a state with the counts of another, in which the clock of a context's processor is the same
 pub deed_counted : (k l : KernelState) (ec : ℕ) → clock l.times (processor_of k ec) ≡ clock k.times (processor_of k ec) → tells_ticks (deed (counting k l) ec) ≡ false → deed (counting k l) ec ≡ deed k ec

@@ -19,8 +19,7 @@ use Rattle.nova_model.specs.declared.deed.Deed.TheVariants as deed
 use Rattle.nova_model.specs.declared.times.Due.TheVariants as due
 use Rattle.nova_model.specs.declared.transfer.ItemWords.{ItemWords}
 use Rattle.law_forest.specs.Effects.{Answers, Parks, Resumes, Edits, Effect, Falls, Passing, Ticks, edit_at, edited, edits_by, effect, follows_by, item_words, memory_with, passing_effect, put, recalls_by, steps_by, store_by, store_words, words_by}
-use Rattle.law_turns.proofs.Setting.{entry_itself, entry_other}
-use Rattle.law_swaps.proofs.Lists.{set_both}
+use Rattle.law_turns.proofs.Setting.{entry_itself, entry_other, set_both}
 use Rattle.law_swaps.proofs.Stepping.{stepped_by}
 use Rattle.law_swaps.proofs.Storing.{Its, are_own, memory_after, same_store, words_both, words_stay}
 use Rattle.law_swaps.proofs.Storing.{same_words as words_through}

@@ -1,16 +1,9 @@
 -- Two places of a list are set in either order; and lists of frames that don't meet have no frame in common.
-use Rattle.std.proofs.Common.{◌≡◌, ◌≢◌, ℕ, zero, suc, List, [], ◌∷◌, refl, ap}
-use Rattle.std.specs.Prelude.{Bool, true, false, ◌==◌, ◌&&◌, ◌||◌, not, slice_set, Contains}
+use Rattle.std.proofs.Common.{◌≡◌, ◌≢◌, ℕ, List, refl}
+use Rattle.std.specs.Prelude.{Bool, true, false, ◌==◌, ◌&&◌, ◌||◌, not, Contains}
 use Rattle.std.proofs.lemmas.Bool.{eqb-false}
 use Rattle.law_forest.proofs.Members.{all_at, in_from_contains, none_any}
 use Rattle.law_swaps.specs.Touches.{Touch, are_apart, has, meet}
-
-pub set_both : {T : Type 0} (xs : List T) (e f : ℕ) (x y : T) → f ≢ e → slice_set (slice_set xs e x) f y ≡ slice_set (slice_set xs f y) e x
-set_both [] e f x y other = refl
-set_both (z ∷ xs) zero zero x y other = absurd (other refl)
-set_both (z ∷ xs) zero (suc f) x y other = refl
-set_both (z ∷ xs) (suc e) zero x y other = refl
-set_both {T} (z ∷ xs) (suc e) (suc f) x y other = ap (λ (l : List T). z ∷ l) (set_both xs e f x y (λ same. other (ap suc same)))
 
 -- FRAMES
 

@@ -21,15 +21,15 @@ use Rattle.nova_model.specs.declared.event.Turn.TheVariants.{Stepped}
 use Rattle.nova_objects.specs.declared.object.Object.{Object}
 use Rattle.law_forest.specs.Effects.{put, store_words}
 use Rattle.law_turns.specs.Keeping.{IsKept}
-use Rattle.law_turns.proofs.Setting.{entry_other, index_other}
+use Rattle.law_turns.proofs.Setting.{entry_other, index_other, set_both}
 use Rattle.law_alike.specs.Alike.{AreStampsGiven, AreTimesAlike, IsAlike, TellsNoTicks, tells_ticks, uncounted}
 use Rattle.law_alike.proofs.Moments.{times_itself}
-use Rattle.law_alike.proofs.Turns.{answers}
+use Rattle.law_alike.proofs.Turns.{answers, long_budgets}
 use Rattle.law_swaps.specs.Touches.{AreSwapped, Executes, IsPlain, IsTouched, Touch, are_apart, frame_stored_to}
-use Rattle.law_swaps.proofs.Beside.{long_budgets, number_at}
+use Rattle.law_swaps.proofs.Beside.{number_at}
 use Rattle.law_swaps.proofs.Charging.{lefts_both, order_both, other_schedule, paid_other}
 use Rattle.law_swaps.proofs.Choosing.{AreChosenAlike, IsHome, actors_apart, at_home, choice_same, due_over, moves_none, next_same}
-use Rattle.law_swaps.proofs.Lists.{IsApart, apart, none_shared, set_both}
+use Rattle.law_swaps.proofs.Lists.{IsApart, apart, none_shared}
 use Rattle.law_swaps.proofs.Seeing.{IsSeenSame, executes_same, instruction_same, own_same, page_same, plain_same, touched_same}
 use Rattle.law_swaps.proofs.Stepping.{IsStepped, does_step, step_is, stepped_by}
 use Rattle.law_swaps.proofs.Storing.{GoesTo, bytes_stay, frames_stay, memory_after, are_own, same_store, same_words, stores_both, words_both, words_stay}

@@ -9,12 +9,12 @@ use Rattle.rv_model.specs.declared.instr.Instr.{Instr}
 use Rattle.rv_model.specs.declared.instr.Instr.TheVariants.{Lb, Lbu, Lh, Lhu, Lw}
 use Rattle.nova_guest.specs.Frames.{read_in}
 use Rattle.nova_range.specs.Rights.{execute_right, read_right}
-use Rattle.nova_model.specs.AddressSpaces.{AddressSpace, found, frame_for, loaded_from, space, words_at}
+use Rattle.nova_model.specs.AddressSpaces.{AddressSpace, found, frame_for, loaded_from, space, without_loads, words_at}
 use Rattle.nova_model.specs.Choice.{in_front}
 use Rattle.nova_model.specs.Deeds.{address_space}
 use Rattle.nova_model.specs.State.{KernelState, context}
 use Rattle.law_forest.proofs.Members.{contains_from_in}
-use Rattle.law_swaps.specs.Touches.{ReadsWithin, frame_fetched, frame_loaded, frame_missed, frames_read, without_loads}
+use Rattle.law_swaps.specs.Touches.{ReadsWithin, frame_fetched, frame_loaded, frame_missed, frames_read}
 
 -- AN INSTRUCTION
 

@@ -1,5 +1,5 @@
 -- Stores of two instructions to two frames of RAM are made in either order; and what frames have the same bytes after one.
-use Rattle.std.proofs.Common.{◌≡◌, ◌≢◌, ℕ, ◌%◌, ◌-◌, ◌++◌, zero, suc, List, [], ◌∷◌, refl, sym, ap, ap₂, ◌∙◌, subst}
+use Rattle.std.proofs.Common.{◌≡◌, ◌≢◌, ℕ, ◌%◌, ◌-◌, ◌++◌, List, refl, sym, ap, ap₂, ◌∙◌, subst}
 use Rattle.std.specs.Prelude.{IsSome, is_some, slice_get, slice_set, Option, Some, None, option_map}
 use Rattle.byteorder.specs.Endian.{little_bytes}
 use Rattle.rv_model.specs.Step.{Store}
@@ -10,8 +10,7 @@ use Rattle.nova_utcb.specs.Messages.{stored}
 use Rattle.nova_model.specs.AddressSpaces.{AddressSpace, frame_for, stored_at, words_at}
 use Rattle.nova_model.specs.Memory.{Memory, logged, written, written_in}
 use Rattle.law_forest.specs.Effects.{memory_with, put, store_words, words_stored}
-use Rattle.law_turns.proofs.Setting.{get_other, set_length}
-use Rattle.law_swaps.proofs.Lists.{set_both}
+use Rattle.law_turns.proofs.Setting.{get_other, set_both, set_length, some_set}
 
 -- the memory after a store in an address space, where there is one
 abbrev pub memory_after : AddressSpace → Memory → Option Store → Memory
@@ -82,13 +81,6 @@ bytes_stay a m store n there other = by_store (is_stored a store m there)
     by_store (Bytes s f is goes old at does) =
         ap (λ (k : Memory). slice_get k.ram n) (does m ∙ written_is m s f old at) ∙ get_other m.ram f n (new_bytes s old) (other s f is goes)
 
-set_there : {T : Type 0} (xs : List T) (e n : ℕ) (x : T) → is_some (slice_get (slice_set xs e x) n) ≡ is_some (slice_get xs n)
-set_there [] e n x = refl
-set_there (y ∷ xs) zero zero x = refl
-set_there (y ∷ xs) zero (suc n) x = refl
-set_there (y ∷ xs) (suc e) zero x = refl
-set_there (y ∷ xs) (suc e) (suc n) x = set_there xs e n x
-
 pub frames_stay : (a : AddressSpace) (m : Memory) (store : Option Store) (n : ℕ) → GoesTo a store (λ frame. IsSome (slice_get m.ram frame)) →
     is_some (slice_get (memory_after a m store).ram n) ≡ is_some (slice_get m.ram n)
 frames_stay a m store n there = by_store (is_stored a store m there)
@@ -96,7 +88,7 @@ frames_stay a m store n there = by_store (is_stored a store m there)
     by_store : IsStored a store m → is_some (slice_get (memory_after a m store).ram n) ≡ is_some (slice_get m.ram n)
     by_store (Nothing none) = ap (λ (k : Memory). is_some (slice_get k.ram n)) (none m)
     by_store (Bytes s f is goes old at does) =
-        ap (λ (k : Memory). is_some (slice_get k.ram n)) (does m ∙ written_is m s f old at) ∙ set_there m.ram f n (new_bytes s old)
+        ap (λ (k : Memory). is_some (slice_get k.ram n)) (does m ∙ written_is m s f old at) ∙ some_set m.ram f n (new_bytes s old)
 
 -- the pages alone tell which frame it goes to
 pub same_store : (a b : AddressSpace) (m : Memory) (store : Option Store) → b.page ≡ a.page → memory_after b m store ≡ memory_after a m store
@@ -172,7 +164,7 @@ frames_kept m store n = by_made (is_made store m)
   where
     by_made : IsMade store m → is_some (slice_get (memory_with m store).ram n) ≡ is_some (slice_get m.ram n)
     by_made (Unmade same) = ap (λ (ram : List (List ℕ)). is_some (slice_get ram n)) same
-    by_made (Made a s frame is goes there new does) = ap (λ (ram : List (List ℕ)). is_some (slice_get ram n)) does ∙ set_there m.ram frame n new
+    by_made (Made a s frame is goes there new does) = ap (λ (ram : List (List ℕ)). is_some (slice_get ram n)) does ∙ some_set m.ram frame n new
 
 -- over another frame with these bytes
 over_bytes : (m : Memory) (f : ℕ) (new : List ℕ) (store : Option (AddressSpace × Store)) → Reaches m.ram store (λ g. g ≢ f) → IsSome (slice_get m.ram f) →

@@ -3,9 +3,9 @@
 use Rattle.std.specs.Prelude.{◌≡◌, ℕ, ◌==◌, ◌&&◌, ◌||◌, Bool, true, false, not, List, [], ◌∷◌, map, slice_get, Option, Some, None, IsSome, option_and_then, Contains, if◌then◌else◌}
 use Rattle.std.specs.List.{list_any}
 use Rattle.rv_model.specs.Registers.{Registers}
-use Rattle.rv_model.specs.Step.{Once, Raised, Space, Store, Went, load_fault, one}
+use Rattle.rv_model.specs.Step.{Once, Raised, Store, Went, load_fault, one}
 use Rattle.nova_range.specs.Rights.{execute_right, read_right, write_right}
-use Rattle.nova_model.specs.AddressSpaces.{AddressSpace, frame_for, space}
+use Rattle.nova_model.specs.AddressSpaces.{AddressSpace, frame_for, space, without_loads}
 use Rattle.nova_model.specs.Choice.{Candidate, choose, in_front, next_to_act}
 use Rattle.nova_model.specs.Deeds.{address_space, deed, instruction}
 use Rattle.nova_model.specs.Delegations.{reach}
@@ -55,10 +55,6 @@ ReadsWithin k ec frames = (ram : List (List ℕ)) → HaveSameBytes frames k.mem
 -- the frame that its next instruction is fetched from
 abbrev pub frame_fetched : KernelState → EcId → Option FrameNumber
 frame_fetched k ec = frame_for (address_space k ec) execute_right (context k ec).regs.pc
-
--- an address space in which nothing is found to load; an instruction that loads raises there, with the address
-abbrev pub without_loads : Space → Space
-without_loads a = record a { load = λ address width. None }
 
 abbrev pub frame_missed : AddressSpace → Once → Option FrameNumber
 frame_missed a (Raised reason address width) = if reason == load_fault then frame_for a read_right address else None

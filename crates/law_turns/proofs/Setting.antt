@@ -1,6 +1,6 @@
 -- Entries of a table where an entry is set.
 use Rattle.std.proofs.Common.{◌≡◌, ◌<◌, ℕ, zero, suc, ◌+◌, List, [], ◌∷◌, ◌++◌, length, inl, inr, refl, ap, arith}
-use Rattle.std.specs.Prelude.{◌≢◌, ◌⊎◌, slice_get, slice_index, slice_set, Option, Some, None, IsSome}
+use Rattle.std.specs.Prelude.{◌≢◌, ◌⊎◌, slice_get, slice_index, slice_set, Option, Some, None, IsSome, is_some}
 use Rattle.nova_model.specs.State.{entry}
 
 pub get_other : {T : Type 0} (xs : List T) (e f : ℕ) (x : T) → f ≢ e → slice_get (slice_set xs e x) f ≡ slice_get xs f
@@ -9,6 +9,20 @@ get_other (y ∷ xs) zero zero x other = absurd (other refl)
 get_other (y ∷ xs) zero (suc f) x other = refl
 get_other (y ∷ xs) (suc e) zero x other = refl
 get_other (y ∷ xs) (suc e) (suc f) x other = get_other xs e f x (λ same. other (ap suc same))
+
+pub set_both : {T : Type 0} (xs : List T) (e f : ℕ) (x y : T) → f ≢ e → slice_set (slice_set xs e x) f y ≡ slice_set (slice_set xs f y) e x
+set_both [] e f x y other = refl
+set_both (z ∷ xs) zero zero x y other = absurd (other refl)
+set_both (z ∷ xs) zero (suc f) x y other = refl
+set_both (z ∷ xs) (suc e) zero x y other = refl
+set_both {T} (z ∷ xs) (suc e) (suc f) x y other = ap (λ (l : List T). z ∷ l) (set_both xs e f x y (λ same. other (ap suc same)))
+
+pub some_set : {T : Type 0} (xs : List T) (e n : ℕ) (x : T) → is_some (slice_get (slice_set xs e x) n) ≡ is_some (slice_get xs n)
+some_set [] e n x = refl
+some_set (y ∷ xs) zero zero x = refl
+some_set (y ∷ xs) zero (suc n) x = refl
+some_set (y ∷ xs) (suc e) zero x = refl
+some_set (y ∷ xs) (suc e) (suc n) x = some_set xs e n x
 
 pub entry_other : {T : Type 0} (xs : List (Option T)) (e f : ℕ) (x : T) → f ≢ e → entry (slice_get (slice_set xs e (Some x)) f) ≡ entry (slice_get xs f)
 entry_other {T} xs e f x other = ap (λ (o : Option (Option T)). entry o) (get_other xs e f (Some x) other)

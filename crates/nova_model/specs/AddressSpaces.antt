@@ -46,6 +46,10 @@ space a = record {
   takes = λ address width. is_some (words_at a address) || is_some (frame_for a write_right address);
 }
 
+-- an address space in which nothing is found to load; an instruction that loads raises there, with the address
+abbrev pub without_loads : Space → Space
+without_loads a = record a { load = λ address width. None }
+
 -- memory after a store that the address space takes; one to message words leaves it
 abbrev pub stored_at : Memory → Store → Option FrameNumber → Memory
 stored_at m s (Some frame) = written m frame (s.address % 4096) s.width s.value

@@ -6,11 +6,11 @@ use Rattle.rv_model.specs.Step.{Once, Raised, Went, one}
 use Rattle.rv_core.specs.Steps.{Follows}
 use Rattle.rv_core.specs.declared.outcome.Outcome.{Outcome}
 use Rattle.rv_core.specs.declared.outcome.Outcome.TheVariants.{Next, Raise}
-use Rattle.nova_model.specs.AddressSpaces.{AddressSpace, space}
+use Rattle.nova_model.specs.AddressSpaces.{AddressSpace, space, without_loads}
 use Rattle.nova_model.specs.Deeds.{address_space, instruction}
 use Rattle.nova_model.specs.State.{KernelState, context_at, context_in}
 use Rattle.nova_model.specs.declared.context.EcState.{EcState}
-use Rattle.nova_recording.specs.Accesses.{PreviewState, access_by, access_in, accessed, load_missed, noted, outcome_of, seen, stored_by, unloaded, without_loads}
+use Rattle.nova_recording.specs.Accesses.{PreviewState, access_by, access_in, accessed, load_missed, noted, outcome_of, seen, stored_by, unloaded}
 use Rattle.nova_recording.specs.declared.preview.Access.{Access}
 
 -- with nothing stored, a state is itself

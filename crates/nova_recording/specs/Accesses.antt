@@ -3,7 +3,7 @@
 use Rattle.std.specs.Prelude.{ℕ, ◌%◌, ◌==◌, Bool, true, false, if◌then◌else◌, Option, Some, None, option_map}
 use Rattle.rv_model.specs.Step.{Space, Store, Once, Raised, Went, one, load_fault}
 use Rattle.nova_model.specs.Numbers.{EcId}
-use Rattle.nova_model.specs.AddressSpaces.{AddressSpace, frame_for, space}
+use Rattle.nova_model.specs.AddressSpaces.{AddressSpace, frame_for, space, without_loads}
 use Rattle.nova_model.specs.Deeds.{address_space, instruction}
 use Rattle.nova_model.specs.Inputs.{store_of}
 use Rattle.nova_model.specs.Memory.{Memory, written}
@@ -20,10 +20,6 @@ store_at a s = record { address = s.address; width = s.width; stored = Some s.va
 
 abbrev pub load_at : AddressSpace → ℕ → ℕ → Access
 load_at a address width = record { address = address; width = width; stored = None; frame = frame_for a read_right address }
-
--- an address space in which nothing is found to load
-abbrev pub without_loads : Space → Space
-without_loads a = record a { load = λ address width. None }
 
 -- the load for which an instruction raises
 abbrev pub load_missed : AddressSpace → Once → Option Access

@@ -2,11 +2,11 @@ ghost use Rattle.std.specs.Prelude.{◌≡◌, ◌<◌, ◌%◌, ◌*◌, ◌^�
 ghost use Rattle.rv_model.specs.Step.{one};
 ghost use Rattle.nova_guest.specs.Frames.{frame_from, read_in};
 ghost use Rattle.nova_guest.specs.Conditions.{IsWidth};
-ghost use Rattle.nova_model.specs.AddressSpaces.{frame_for, space, words_at};
+ghost use Rattle.nova_model.specs.AddressSpaces.{frame_for, space, words_at, without_loads};
 ghost use Rattle.nova_model.specs.Deeds.{address_space};
 ghost use Rattle.nova_kernel.specs.Views.{IsTurnTaken};
 ghost use Rattle.nova_model.specs.State.{context_at, is_thread, message, pd_of};
-ghost use Rattle.nova_recording.specs.Accesses.{PreviewState, access_by, accessed, begun, found, load_at, load_missed, outcome_of, seen, stored_by, without_loads};
+ghost use Rattle.nova_recording.specs.Accesses.{PreviewState, access_by, accessed, begun, found, load_at, load_missed, outcome_of, seen, stored_by};
 
 use bitflags::Flags;
 use nova_guest::words::read_word;

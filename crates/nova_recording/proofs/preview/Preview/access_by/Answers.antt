@@ -1,10 +1,10 @@
 use Rattle.std.proofs.Common.{rules, ◌≡◌, ◌∙◌, ap}
 use Rattle.std.specs.Prelude.{None}
 use Rattle.rv_model.specs.Step.{one}
-use Rattle.nova_model.specs.AddressSpaces.{space}
+use Rattle.nova_model.specs.AddressSpaces.{space, without_loads}
 use Rattle.nova_model.specs.Deeds.{address_space}
 use Rattle.nova_kernel.specs.Views.{KernelView}
-use Rattle.nova_recording.specs.Accesses.{PreviewState, load_missed, stored_by, without_loads}
+use Rattle.nova_recording.specs.Accesses.{PreviewState, load_missed, stored_by}
 use Rattle.nova_recording.proofs.Looked.{loads}
 use Rattle.nova_recording.proofs.preview.Preview.access_by.Goals as goal
 
