@@ -12,7 +12,7 @@ ENTRIES = {"startup": 0x100, "serves": 0x200, "quiet": 0xC00}
 class Creator(Reviser):
     """A side that creates, also in domains that it made, and gives and revokes as a reviser, without deadlines.
 
-    The threads that it makes create, raise and lower semaphores, call, look up and recall; they neither give nor revoke, so that none gives amid a revoke of another's.
+    The threads that it makes create, raise and lower semaphores, call, look up and recall; they neither give, also no first range, nor revoke, so that none gives amid a revoke of another's.
     """
 
     def __init__(self, side: int, seed: object) -> None:
@@ -33,6 +33,11 @@ class Creator(Reviser):
         """One at which something may have been made."""
         return self.rng.choice([*range(32, 44), EVENTS, QUIET, *range(96, self.next + 1)])
 
+    def first(self) -> int:
+        """What a new domain is given first: portals for its threads' exits, what was made, pages, or nothing."""
+        rng = self.rng
+        return rng.choice([0, word("obj", EVENTS, 3, 31), word("obj", rng.choice([32, 40, 56]), 3, 31), word("mem", self.page(), 3, 7), self.range()])
+
     def entry(self, name: str) -> int:
         return self.page() * 4096 + ENTRIES[name]
 
@@ -40,11 +45,11 @@ class Creator(Reviser):
         """Where a thread that it makes begins."""
         return self.page() * 4096 + self.rng.choice([0x2000, 0x3000])
 
-    def thread(self, at: int, pays: int) -> list[str]:
-        """A thread or a virtual CPU of its own processor, with what schedules it, which a portal at its first event has begin."""
+    def thread(self, at: int, pays: int, owner: int = OWN) -> list[str]:
+        """A thread or a virtual CPU of its own processor, with what schedules it, which a portal at its first event has begin, if its domain has that."""
         rng = self.rng
         lines = call(5, EVENTS, OWN, HANDLER, rng.choice([2, 2, 3, 15]), self.entry("startup")) + call(11, EVENTS, self.begins())
-        lines += call(3, at, OWN, rng.choice([0x100, 0x100, 0x100, 0x200]) + 1 + self.side, self.page() * 4096, rng.choice([EVENTS] * 4 + [self.made()]))
+        lines += call(3, at, owner, rng.choice([0x100, 0x100, 0x100, 0x200]) + 1 + self.side, self.page() * 4096, rng.choice([EVENTS] * 4 + [self.made()]))
         return lines + call(4, pays, OWN, at, rng.choice([1, 2, 3, 7]) * 256 + rng.choice([1, 2, 3, 3, 3, 3, 4]))
 
     def creates(self, main: bool) -> list[str]:
@@ -65,8 +70,8 @@ class Creator(Reviser):
         if kind == 5:
             return call(4, self.fresh(), self.owner(), self.made(), rng.choice([0, 1, 2, 3, 7]) * 256 + rng.randrange(5))
         if kind == 6:
-            return call(2, rng.choice([DOMAIN, DOMAIN + 1, self.fresh()]), self.owner(), 0)
-        return self.thread(self.fresh(), self.fresh())
+            return call(2, rng.choice([DOMAIN, DOMAIN + 1, self.fresh()]), self.owner(), self.first() if main else 0)
+        return self.thread(self.fresh(), self.fresh(), self.owner())
 
     def quiet_step(self, main: bool) -> list[str]:
         """What any thread does: nothing is given or taken away."""
@@ -109,7 +114,7 @@ class Creator(Reviser):
         if length < 24:
             return ["top:"] + [line for _ in range(length) for line in self.quiet_step(False) + self.told()] + [self.rng.choice(["j top", "j top", "ebreak"])]
         before = [line for _ in range(4) for line in self.gives_or_revokes()]
-        return before + SPINS + call(2, DOMAIN, OWN, 0) + self.thread(40, 41) + self.thread(42, 43) + super().program(16)
+        return before + SPINS + call(2, DOMAIN, OWN, self.first()) + self.thread(40, 41) + self.thread(42, 43) + super().program(16)
 
     def images(self) -> str:
         quiet = message([], self.rng.choice([0, 1, 2])) + ["addi x17, x0, 1", "ecall"]

@@ -118,9 +118,10 @@ def at_work(events: list[list[str]], allowed: Allowed = Allowed()) -> set[str]:
     """Whether these events of the side's processor are of a side at work."""
     found, amid = set(), set()  # who is amid a revoke
     for _, context, kind, a, b in events:
-        asks = kind == "answer" and (a in CREATES and not allowed.creates or a == REVOKE and not allowed.revokes)
+        creates = kind == "answer" and a in CREATES or (kind, a) == ("begin", CREATE_PD)
+        asks = creates and not allowed.creates or (kind, a) == ("answer", REVOKE) and not allowed.revokes
         waits = kind == "late" or (kind, a, b) == ("answer", WAIT, TIMEOUT)
-        if asks or (kind, a) == ("begin", CREATE_PD) or waits and allowed.creates:
+        if asks or waits and allowed.creates:
             found.add("IsAtWork.calls")
         if kind == "gone" and not allowed.revokes:
             found.add("IsAtWork.revokes")

@@ -5,13 +5,11 @@ use Rattle.std.proofs.lemmas.Option.{slice_get_within}
 use Rattle.nova_objects.specs.declared.object.EcKind.{EcKind}
 use Rattle.nova_objects.specs.declared.object.Object.TheVariants.{Ec}
 use Rattle.nova_model.specs.Boot.{Scenario, boot}
-use Rattle.nova_model.specs.Edges.{is_giving}
 use Rattle.nova_model.specs.Runs.{after, run}
-use Rattle.nova_model.specs.State.{KernelState, context, entry}
+use Rattle.nova_model.specs.State.{KernelState, entry}
 use Rattle.nova_model.specs.declared.times.Deadline.{Deadline}
 use Rattle.law_forest.specs.Effects.{Passing}
 use Rattle.law_forest.specs.Turns.{IsPassing}
-use Rattle.law_turns.specs.Giving.{gives_no_first}
 use Rattle.law_isolation.proofs.Runs.{reached_sound}
 use Rattle.law_origins.proofs.Lists.{run_append}
 use Rattle.law_integrity.specs.Confined.{IsOwned, Of, more}
@@ -51,9 +49,9 @@ apart_owned true k S P T c n pd cpu kind event is p =
     of_domains k S pd (subst (IsOwned k (Of (domains k S)) n) is (c.part.guarded.owned n (in_existing k P n p (slice_get_within k.objects n (Ec pd cpu kind event) is))))
 
 pub apart_gives : (creates : Bool) (s : Scenario) (before : List ℕ) (S P : ℕ → Bool) (T : ℕ → Type 0) (cpu ec sc : ℕ) → IsKeptApart creates (run (boot s) before) S P T → own_turn S (run (boot s) before) cpu ≡ Some (ec, sc) →
-    is_giving (context (run (boot s) before) ec).state ≡ true → gives_no_first (context (run (boot s) before) ec).state ≡ true → RevokesNothing (run (boot s) before) (Of S) → IsGivingWithin (run (boot s) before) (Of S) ec
-apart_gives false s before S P T cpu ec sc c own gives works none = within_partition S P T (run (boot s) before) cpu ec sc (reached_sound s before) c own gives works none
-apart_gives true s before S P T cpu ec sc c own gives works none = gives_whole s before S P T cpu ec sc c.part own gives works none
+    RevokesNothing (run (boot s) before) (Of S) → IsGivingWithin (run (boot s) before) (Of S) ec
+apart_gives false s before S P T cpu ec sc c own none = within_partition S P T (run (boot s) before) cpu ec sc (reached_sound s before) c own none
+apart_gives true s before S P T cpu ec sc c own none = gives_whole s before S P T cpu ec sc c.part own none
 
 -- A TURN OF OTHERS
 
@@ -141,7 +139,7 @@ pub left_along : (allowed : Allowed) (s : Scenario) (before turns : List ℕ) (S
 left_along allowed s before [] S P T c nothing works = tt
 left_along allowed s before (cpu ∷ turns) S P T c nothing works = (
   λ none. (others_stand allowed s before S P T cpu c none (λ yes. (nothing yes).0)).0,
-  λ ec sc own gives. apart_gives allowed.creates s before S P T cpu ec sc c.apart own gives (works.0 ec sc own).state ((works.0 ec sc own).gives gives),
+  λ ec sc own gives. apart_gives allowed.creates s before S P T cpu ec sc c.apart own ((works.0 ec sc own).gives gives),
   c.derives,
   subst (λ (l : KernelState). StandsApart allowed l S P (more k T cpu) → (allowed.creates ≡ true → OthersMakeNothing S l turns) → AreAtWorkTimeless allowed S l turns → AreLeftAlone allowed.revokes S P l turns) next
       (left_along allowed s (before ++ cpu ∷ []) turns S P (more k T cpu)) (by_own (own_turn S k cpu) refl) (λ yes. (nothing yes).1) works.1,

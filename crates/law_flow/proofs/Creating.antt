@@ -1,22 +1,25 @@
 -- What one of a side asks to be made is made of the same in two states in which the side's part is, and is made of what is the side's.
-use Rattle.std.proofs.Common.{◌≡◌, ℕ, suc, zero, List, [], ◌∷◌, refl, sym, ap, ap₂, ◌∙◌, subst}
+use Rattle.std.proofs.Common.{◌≡◌, ℕ, suc, zero, List, [], ◌∷◌, length, refl, sym, ap, ap₂, ◌∙◌, subst}
 use Rattle.std.specs.Prelude.{Bool, true, false, ◌||◌, is_some, nat_lt, not, slice_get, option_map, option_and_then, Option, Some, None, Result, Ok, Err}
 use Rattle.std.specs.List.{find, list_any}
 use Rattle.std.proofs.lemmas.Bool.{eqb-true, eq-eqb}
-use Rattle.nova_calls.specs.declared.numbers.TheConstants.{CREATE_EC, CREATE_PD, CREATE_PT, CREATE_SC, CREATE_SM}
+use Rattle.nova_calls.specs.declared.numbers.TheConstants.{CREATE_EC, CREATE_PT, CREATE_SC, CREATE_SM}
 use Rattle.nova_objects.specs.declared.object.EcKind.{EcKind}
 use Rattle.nova_objects.specs.declared.object.Object.{Object}
 use Rattle.nova_objects.specs.declared.object.Object.TheVariants.{Ec, Pd, Pt, Sc, Sm}
 use Rattle.nova_range.specs.declared.range.Kind.TheVariants.{Obj}
+use Rattle.nova_range.specs.declared.range.Range.{Range}
+use Rattle.nova_range.specs.declared.rights.Rights.{Rights}
 use Rattle.nova_range.specs.declared.status.Status.{Status}
 use Rattle.nova_range.specs.declared.status.Status.TheVariants.{BadCap, BadCpu, Busy}
 use Rattle.nova_model.specs.Capabilities.{bind_portal_right, bind_scheduling_right, create_right, is_ec, is_local, is_pd, is_schedulable, named}
 use Rattle.nova_model.specs.Delegations.{covers}
-use Rattle.nova_model.specs.Hypercalls.{and_then, create_ec, create_pd, create_pt, create_sc, create_sm, is_scheduled, maker, makes, schedules, unless, unless_busy}
+use Rattle.nova_model.specs.Hypercalls.{and_then, create_ec, create_pd, create_pt, create_sc, create_sm, is_scheduled, maker, makes, new_domain, schedules, unless, unless_busy}
 use Rattle.nova_model.specs.Revokes.{Revocation}
 use Rattle.nova_model.specs.Running.{is_revoked, revoke_of, revoke_by}
 use Rattle.nova_model.specs.State.{KernelState, context_at, entry, pd_in, pd_of, processor_of}
 use Rattle.nova_model.specs.declared.context.EcState.{EcState}
+use Rattle.nova_model.specs.declared.deed.Deed.{Deed}
 use Rattle.nova_model.specs.declared.deed.Deed.TheVariants as deeds
 use Rattle.nova_model.specs.declared.new_object.NewObject.{NewObject}
 use Rattle.nova_model.specs.declared.new_object.NewObject.TheVariants as new
@@ -161,9 +164,16 @@ makes_same k l S P b m domain call target pd s mine its same =
     (maker_same k l S P b domain target pd s) (revoked_same k l S P b m domain target s)
     ∙ next_by (maker k domain target pd) _ _ (λ owner is. ap (λ (r : Result NewObject Status). and_then r (λ made. unless_busy k domain target (deeds.Makes call target made))) (same owner))
 
-pub create_pd_same : (k l : KernelState) (S P : ℕ → Type 0) → Both k l S P → AreMaking k l S P → (domain target pd : ℕ) → S domain → create_pd l domain target pd None ≡ create_pd k domain target pd None
-create_pd_same k l S P b m domain target pd s =
-    ap₂ (λ (o : Result ℕ Status) (t : Bool). and_then o (λ owner. unless t Busy (Ok (deeds.Makes CREATE_PD target new.Pd)))) (maker_same k l S P b domain target pd s) (revoked_same k l S P b m domain target s)
+-- a domain that is made is of the same number in both, where it is given a first range
+domain_same : (k l : KernelState) → length l.objects ≡ length k.objects → (target : ℕ) (first : Option (Range × Rights)) → new_domain l target first ≡ new_domain k target first
+domain_same k l same target None = refl
+domain_same k l same target (Some range) = ap (deeds.Opens target) same
+
+pub create_pd_same : (k l : KernelState) (S P : ℕ → Type 0) → Both k l S P → AreMaking k l S P → (domain target pd : ℕ) (first : Option (Range × Rights)) → S domain →
+    create_pd l domain target pd first ≡ create_pd k domain target pd first
+create_pd_same k l S P b m domain target pd first s =
+    ap (λ (d : Deed). and_then (maker l domain target pd) (λ owner. unless (is_revoked l domain target) Busy (Ok d))) (domain_same k l m.alone.objects target first)
+    ∙ ap₂ (λ (o : Result ℕ Status) (t : Bool). and_then o (λ owner. unless t Busy (Ok (new_domain k target first)))) (maker_same k l S P b domain target pd s) (revoked_same k l S P b m domain target s)
 
 pub create_ec_same : (k l : KernelState) (S P : ℕ → Type 0) → Both k l S P → AreMaking k l S P → (domain target pd cpu : ℕ) (kind : EcKind) (sp event : ℕ) → S domain →
     create_ec l domain target pd cpu kind sp event ≡ create_ec k domain target pd cpu kind sp event

@@ -23,7 +23,7 @@ use Rattle.nova_model.specs.Deeds.{deed, deed_in, instruction, mark_in, ready, s
 use Rattle.nova_model.specs.Delegations.{covers}
 use Rattle.nova_model.specs.Edges.{is_giving}
 use Rattle.nova_model.specs.Exits.{exit_at, exit_portal, exit_to, exits}
-use Rattle.nova_model.specs.Hypercalls.{and_then, called, deadline_after, downed_by, downed_within, hypercall, maker, makes, or_refuses, replied, row, ticks_in, unless, unless_busy, upped_by}
+use Rattle.nova_model.specs.Hypercalls.{and_then, called, deadline_after, downed_by, downed_within, hypercall, maker, makes, new_domain, or_refuses, replied, row, ticks_in, unless, unless_busy, upped_by}
 use Rattle.nova_model.specs.Portals.{handler_of, identifier, ip_of, mtd_in}
 use Rattle.nova_model.specs.Running.{is_revoked}
 use Rattle.nova_model.specs.Semaphores.{answer_of, greatest, has, semaphore, woken, woken_of}
@@ -49,7 +49,6 @@ use Rattle.nova_model.specs.declared.times.Deadline.{Deadline}
 use Rattle.law_turns.specs.Asked.{IsCalling}
 use Rattle.law_integrity.specs.Rights.{Again, AtCall}
 use Rattle.law_integrity.proofs.Confining.{waits_edge}
-use Rattle.law_turns.specs.Giving.{gives_no_first}
 use Rattle.law_turns.specs.Revoking.{is_revoking}
 use Rattle.law_flow.specs.Flow.{HasSameClock, IsAtWork, IsCallAtWork}
 use Rattle.law_flow.proofs.Creating.{AreMaking, IsMadeOf, MadeOr, create_ec_same, create_pd_same, create_pt_same, create_sc_same, create_sm_same, ec_made, next_by, pt_made, sc_made}
@@ -125,8 +124,7 @@ row_same revoking k l S P b ec p s (asks.SmCtrl sm (act.DownWithin ticks)) works
     until n =
         ap (λ (c : ℕ). record { cpu = c; sm = n; at = clock l.times c + 1 + ticks }) (processor_same k l S P b ec p)
         ∙ ap (λ (now : ℕ). record { cpu = processor_of k ec; sm = n; at = now + 1 + ticks }) works
-row_same revoking k l S P b ec p s (asks.CreatePd target pd None) works = create_pd_same k l S P b works (pd_of k ec) target pd s
-row_same revoking k l S P b ec p s (asks.CreatePd target pd (Some first)) works = absurd works
+row_same revoking k l S P b ec p s (asks.CreatePd target pd first) works = create_pd_same k l S P b works (pd_of k ec) target pd first s
 row_same revoking k l S P b ec p s (asks.CreateEc target pd cpu kind sp event) works = create_ec_same k l S P b works (pd_of k ec) target pd cpu kind sp event s
 row_same revoking k l S P b ec p s (asks.CreateSc target pd whose quantum priority) works = create_sc_same k l S P b works (pd_of k ec) target pd whose quantum priority s
 row_same revoking k l S P b ec p s (asks.CreatePt target pd handler mtd ip) works = create_pt_same k l S P b works (pd_of k ec) target pd handler mtd.0 ip s
@@ -184,9 +182,9 @@ calling k ec reason q0 q1 state none at h =
       raises = at ∙ ap (λ (n : ℕ). Raised n q0 q1) (eqb-true reason environment_call parts.0);
     }
 
-in_same : (giving revoking : Type 0) (k l : KernelState) (S P : ℕ → Type 0) → Both k l S P → (ec : ℕ) → P ec → S (pd_of k ec) → IsAtWork (HasSameClock k l ec) giving revoking (AreMaking k l S P) k ec → (t : State) → (context k ec).state ≡ t → gives_no_first t ≡ true →
+in_same : (giving revoking : Type 0) (k l : KernelState) (S P : ℕ → Type 0) → Both k l S P → (ec : ℕ) → P ec → S (pd_of k ec) → IsAtWork (HasSameClock k l ec) giving revoking (AreMaking k l S P) k ec → (t : State) → (context k ec).state ≡ t →
     is_giving t ≡ false → is_revoking t ≡ false → deed_in l ec t ≡ deed_in k ec t
-in_same giving revoking k l S P b ec p s works Ready is calm none_given unrevoking =
+in_same giving revoking k l S P b ec p s works Ready is none_given unrevoking =
     ap (λ (x : EcState). ready l ec x.recall) (context_same k l S P b ec p s) ∙ by_recall (context k ec).recall refl
   where
     by_signal : (context k ec).recall ≡ false → (reason q0 q1 : ℕ) → instruction k ec ≡ Raised reason q0 q1 → (t : Bool) → ((reason == environment_call) && is_thread k ec) ≡ t →
@@ -203,21 +201,21 @@ in_same giving revoking k l S P b ec p s works Ready is calm none_given unrevoki
     by_recall : (t : Bool) → (context k ec).recall ≡ t → ready l ec t ≡ ready k ec t
     by_recall true recalled = refl
     by_recall false none = ap (stepping l ec) (instruction_same k l S P b ec p s) ∙ by_once none (instruction k ec) refl
-in_same giving revoking k l S P b ec p s works (Exiting reason q0 q1) is calm none_given unrevoking = exits_same k l S P b ec reason q0 q1 p s
-in_same giving revoking k l S P b ec p s works (Sending reason q0 q1 handler) is calm none_given unrevoking = exits_same k l S P b ec reason q0 q1 p s
-in_same giving revoking k l S P b ec p s works (Calling handler) is calm none_given unrevoking =
+in_same giving revoking k l S P b ec p s works (Exiting reason q0 q1) is none_given unrevoking = exits_same k l S P b ec reason q0 q1 p s
+in_same giving revoking k l S P b ec p s works (Sending reason q0 q1 handler) is none_given unrevoking = exits_same k l S P b ec reason q0 q1 p s
+in_same giving revoking k l S P b ec p s works (Calling handler) is none_given unrevoking =
     ap (λ (o : Option (ℕ × Mark)). deeds.Aborts handler (mark_in o)) (caller_same k l S P b handler (b.side.edges ec handler p (waits_edge k ec handler is)))
-in_same giving revoking k l S P b ec p s works (Helping handler) is calm none_given unrevoking = hypercall_same revoking k l S P b ec p s (works.calls (Again handler is))
-in_same giving revoking k l S P b ec p s works (Granting new) is calm none_given unrevoking = absurd (cc)
-in_same giving revoking k l S P b ec p s works Replying is calm none_given unrevoking = absurd (cc)
-in_same giving revoking k l S P b ec p s works (Revoking range own) is calm none_given unrevoking = absurd (cc)
-in_same giving revoking k l S P b ec p s works other is calm none_given unrevoking = refl
+in_same giving revoking k l S P b ec p s works (Helping handler) is none_given unrevoking = hypercall_same revoking k l S P b ec p s (works.calls (Again handler is))
+in_same giving revoking k l S P b ec p s works (Granting new) is none_given unrevoking = absurd (cc)
+in_same giving revoking k l S P b ec p s works Replying is none_given unrevoking = absurd (cc)
+in_same giving revoking k l S P b ec p s works (Revoking range own) is none_given unrevoking = absurd (cc)
+in_same giving revoking k l S P b ec p s works other is none_given unrevoking = refl
 
 -- one that gives no items and takes nothing away does the same
 pub deed_same : (giving revoking : Type 0) (k l : KernelState) (S P : ℕ → Type 0) → Both k l S P → (ec : ℕ) → P ec → S (pd_of k ec) → IsAtWork (HasSameClock k l ec) giving revoking (AreMaking k l S P) k ec → is_giving (context k ec).state ≡ false → is_revoking (context k ec).state ≡ false → deed l ec ≡ deed k ec
 unfolding deed
 deed_same giving revoking k l S P b ec p s works none_given unrevoking =
-    ap (λ (x : EcState). deed_in l ec x.state) (context_same k l S P b ec p s) ∙ in_same giving revoking k l S P b ec p s works (context k ec).state refl works.state none_given unrevoking
+    ap (λ (x : EcState). deed_in l ec x.state) (context_same k l S P b ec p s) ∙ in_same giving revoking k l S P b ec p s works (context k ec).state refl none_given unrevoking
 
 -- TO WHOM IT IS DONE
 
@@ -244,6 +242,7 @@ IsOwn timed P other = Unit {0}
 -- or it makes an object, of what is of the side
 abbrev pub MayDo : Type 0 → Type 0 → (ℕ → Type 0) → Deed → Type 0
 MayDo timed creating P (deeds.Makes call target made) = creating × IsMadeOf P made
+MayDo timed creating P (deeds.Opens target domain) = creating
 MayDo timed creating P other = IsOwn timed P other
 
 abbrev OwnOr : Type 0 → Type 0 → (ℕ → Type 0) → Result Deed Status → Type 0
@@ -320,9 +319,12 @@ row_own timed revoking creating k l S P b ec p s (asks.SmCtrl sm (act.DownWithin
     by_answer : (n : ℕ) → P n → (a : Down) → OwnOr timed creating P (downed_within n ticks (deadline_after k ec n ticks) a)
     by_answer n q down.Done = q
     by_answer n q down.Blocked = unless_own timed creating P (ticks == 0) Timeout _ (q, works)
-row_own timed revoking creating k l S P b ec p s (asks.CreatePd target pd None) works =
-    next_own timed creating P (maker k (pd_of k ec) target pd) _ (λ owner is. unless_own timed creating P (is_revoked k (pd_of k ec) target) Busy _ (works, tt))
-row_own timed revoking creating k l S P b ec p s (asks.CreatePd target pd (Some first)) works = absurd works
+row_own timed revoking creating k l S P b ec p s (asks.CreatePd target pd first) works =
+    next_own timed creating P (maker k (pd_of k ec) target pd) _ (λ owner is. unless_own timed creating P (is_revoked k (pd_of k ec) target) Busy _ (by_first first))
+  where
+    by_first : (first : Option (Range × Rights)) → MayDo timed creating P (new_domain k target first)
+    by_first None = (works, tt)
+    by_first (Some range) = works
 row_own timed revoking creating k l S P b ec p s (asks.CreateEc target pd cpu kind sp event) works =
     makes_own timed creating k P works (pd_of k ec) CREATE_EC target pd _ (λ owner. ec_made k P owner cpu kind sp event)
 row_own timed revoking creating k l S P b ec p s (asks.CreateSc target pd whose quantum priority) works =
@@ -358,9 +360,9 @@ exits_own timed creating k l S P b ec reason q0 q1 p s = by_portal (exit_portal 
     by_portal (Ok pt) is =
         by_admit pt (handler_mine k l S P b (pd_of k ec) event_right (plus (event_base k ec) reason) pt s is) (exit_admitted k.contexts ec (handler_of k pt))
 
-in_own : (timed giving revoking creating : Type 0) (k l : KernelState) (S P : ℕ → Type 0) → Both k l S P → (ec : ℕ) → P ec → S (pd_of k ec) → IsAtWork timed giving revoking creating k ec → (t : State) → (context k ec).state ≡ t → gives_no_first t ≡ true →
+in_own : (timed giving revoking creating : Type 0) (k l : KernelState) (S P : ℕ → Type 0) → Both k l S P → (ec : ℕ) → P ec → S (pd_of k ec) → IsAtWork timed giving revoking creating k ec → (t : State) → (context k ec).state ≡ t →
     is_giving t ≡ false → is_revoking t ≡ false → MayDo timed creating P (deed_in k ec t)
-in_own timed giving revoking creating k l S P b ec p s works Ready is calm none_given unrevoking = by_recall (context k ec).recall refl
+in_own timed giving revoking creating k l S P b ec p s works Ready is none_given unrevoking = by_recall (context k ec).recall refl
   where
     by_signal : (context k ec).recall ≡ false → (reason q0 q1 : ℕ) → instruction k ec ≡ Raised reason q0 q1 → (t : Bool) → ((reason == environment_call) && is_thread k ec) ≡ t →
         MayDo timed creating P (signalled k ec reason q0 q1 t)
@@ -374,14 +376,14 @@ in_own timed giving revoking creating k l S P b ec p s works Ready is calm none_
     by_recall : (t : Bool) → (context k ec).recall ≡ t → MayDo timed creating P (ready k ec t)
     by_recall true recalled = tt
     by_recall false none = by_once none (instruction k ec) refl
-in_own timed giving revoking creating k l S P b ec p s works (Exiting reason q0 q1) is calm none_given unrevoking = exits_own timed creating k l S P b ec reason q0 q1 p s
-in_own timed giving revoking creating k l S P b ec p s works (Sending reason q0 q1 handler) is calm none_given unrevoking = exits_own timed creating k l S P b ec reason q0 q1 p s
-in_own timed giving revoking creating k l S P b ec p s works (Helping handler) is calm none_given unrevoking = hypercall_own timed revoking creating k l S P b ec p s (works.calls (Again handler is))
-in_own timed giving revoking creating k l S P b ec p s works (Granting new) is calm none_given unrevoking = absurd (cc)
-in_own timed giving revoking creating k l S P b ec p s works Replying is calm none_given unrevoking = absurd (cc)
-in_own timed giving revoking creating k l S P b ec p s works (Revoking range own) is calm none_given unrevoking = absurd (cc)
-in_own timed giving revoking creating k l S P b ec p s works other is calm none_given unrevoking = tt
+in_own timed giving revoking creating k l S P b ec p s works (Exiting reason q0 q1) is none_given unrevoking = exits_own timed creating k l S P b ec reason q0 q1 p s
+in_own timed giving revoking creating k l S P b ec p s works (Sending reason q0 q1 handler) is none_given unrevoking = exits_own timed creating k l S P b ec reason q0 q1 p s
+in_own timed giving revoking creating k l S P b ec p s works (Helping handler) is none_given unrevoking = hypercall_own timed revoking creating k l S P b ec p s (works.calls (Again handler is))
+in_own timed giving revoking creating k l S P b ec p s works (Granting new) is none_given unrevoking = absurd (cc)
+in_own timed giving revoking creating k l S P b ec p s works Replying is none_given unrevoking = absurd (cc)
+in_own timed giving revoking creating k l S P b ec p s works (Revoking range own) is none_given unrevoking = absurd (cc)
+in_own timed giving revoking creating k l S P b ec p s works other is none_given unrevoking = tt
 
 pub deed_own : (timed giving revoking creating : Type 0) (k l : KernelState) (S P : ℕ → Type 0) → Both k l S P → (ec : ℕ) → P ec → S (pd_of k ec) → IsAtWork timed giving revoking creating k ec → is_giving (context k ec).state ≡ false → is_revoking (context k ec).state ≡ false → MayDo timed creating P (deed k ec)
 unfolding deed
-deed_own timed giving revoking creating k l S P b ec p s works none_given unrevoking = in_own timed giving revoking creating k l S P b ec p s works (context k ec).state refl works.state none_given unrevoking
+deed_own timed giving revoking creating k l S P b ec p s works none_given unrevoking = in_own timed giving revoking creating k l S P b ec p s works (context k ec).state refl none_given unrevoking

@@ -6,6 +6,7 @@ use Rattle.std.proofs.lemmas.Bool.{and_parts, eqb-true}
 use Rattle.std.proofs.lemmas.Bool.Decides.{nat_tests}
 use Rattle.std.proofs.lemmas.Option.{slice_get_within}
 use Rattle.nova_guest.specs.declared.page.Page.{Page}
+use Rattle.nova_objects.specs.ObjectTables.{is_domain}
 use Rattle.nova_objects.specs.declared.object.Object.{Object}
 use Rattle.nova_objects.specs.declared.object.Object.TheVariants.{Ec, Pd, Pt, Sc, Sm}
 use Rattle.nova_range.specs.declared.range.Kind.{Kind}
@@ -31,7 +32,7 @@ use Rattle.law_integrity.specs.Confined.{Of}
 use Rattle.law_integrity.proofs.Edges.{at_index}
 use Rattle.law_integrity.proofs.Entries.{same_length}
 use Rattle.law_integrity.proofs.Homes.{AreHomed, home_there}
-use Rattle.law_flow.specs.Flow.{AreAlike, IsSide, domains, existing, fronts, held_by, if_own, is_domain, origin_at, origin_of, own_turn}
+use Rattle.law_flow.specs.Flow.{AreAlike, IsSide, domains, existing, fronts, held_by, if_own, origin_at, origin_of, own_turn}
 use Rattle.law_flow.proofs.Leaving.{absent, raw}
 use Rattle.law_flow.proofs.Sets.{line_in}
 

@@ -7,7 +7,6 @@ use Rattle.std.proofs.lemmas.Bool.Decides.{nat_tests}
 use Rattle.rv_model.specs.Codes.{instr_of}
 use Rattle.rv_model.specs.Step.{one}
 use Rattle.nova_calls.specs.Hypercalls.{call_of}
-use Rattle.nova_calls.specs.declared.numbers.TheConstants.{CREATE_SM}
 use Rattle.nova_objects.specs.declared.object.EcKind.TheVariants.{Global}
 use Rattle.nova_objects.specs.declared.object.Object.{Object}
 use Rattle.nova_objects.specs.declared.object.Object.TheVariants.{Pd, Ec, Sc, Pt, Sm}
@@ -28,22 +27,22 @@ use Rattle.nova_model.specs.declared.context.EcState.{EcState}
 use Rattle.nova_model.specs.declared.context.Mark.{Mark}
 use Rattle.nova_model.specs.declared.context.State.{State}
 use Rattle.nova_model.specs.declared.context.State.TheVariants.{Blocked, Fresh, Granting, Ready}
-use Rattle.nova_model.specs.declared.deed.Deed.TheVariants.{Makes}
+use Rattle.nova_model.specs.declared.deed.Deed.TheVariants.{Gives, Opens}
 use Rattle.nova_model.specs.declared.delegation.Derivation.{Derivation}
-use Rattle.nova_model.specs.declared.new_object.NewObject.TheVariants as new
 use Rattle.nova_model.specs.declared.times.AlarmState.{AlarmState}
 use Rattle.nova_model.specs.declared.times.Deadline.{Deadline}
 use Rattle.law_forest.proofs.Members.{IsIn, all_at, contains_from_in, in_from_contains}
 use Rattle.law_turns.specs.Links.{caller_at as caller_of, state_at as state_of}
 use Rattle.law_integrity.specs.Confined.{AreSetsApart, IsClosed, IsIdle, IsMember, IsOwned, Of}
+use Rattle.law_integrity.proofs.Meeting.{IsCalm}
 use Rattle.law_isolation.proofs.Runs.{reached_sound}
-use Rattle.law_flow.specs.Examples.{first_processors, lone_maker, made_domains, maker_domains, maker_objects, maker_turns}
+use Rattle.law_flow.specs.Examples.{first_page, first_processors, lone_maker, made_domains, maker_domains, maker_objects, maker_turns}
 use Rattle.law_flow.specs.Flow.{AreAtWorkTimeless, AreCreatingAlone, AreRevokingWithin, IsCreatingAlone, IsPartitioned, IsTimeless, OthersMakeNothing, domains, existing}
 use Rattle.law_flow.specs.Processors.{IsDivided, StayOn}
 use Rattle.law_flow.proofs.Apart.{free}
 use Rattle.law_flow.proofs.Deriving.{revoking_itself, within_by}
 use Rattle.law_flow.proofs.Existing.{domain_at, existing_below, in_domains, in_existing, is_below, of_domains, of_existing}
-use Rattle.law_flow.proofs.Looking.{AllAt, IsCalm, at_all, calm_context, calm_edge, calm_wait, entry_at, looked_up, no}
+use Rattle.law_flow.proofs.Looking.{AllAt, at_all, calm_context, calm_edge, calm_wait, entry_at, looked_up, no}
 use Rattle.law_flow.proofs.Sets.{line_in}
 use Rattle.law_flow.proofs.Working.{all_stay_on, are_unmade, are_work, stay_so, unmade_so, works_so}
 
@@ -350,9 +349,13 @@ all_work = refl
 pub founds_works : AreAtWorkTimeless (free true) maker_domains (run (boot lone_maker) (replicate 22 0)) maker_turns
 founds_works = works_so true maker_domains (run (boot lone_maker) (replicate 22 0)) maker_turns all_work
 
-pub founds : deed (run (boot lone_maker) (replicate 25 0)) 1 ≡ Makes CREATE_SM 32 (new.Sm 33)
+pub founds : deed (run (boot lone_maker) (replicate 26 0)) 1 ≡ Opens 32 6
 unfolding one instr_of call_of choice deed input_of next_entry charged turn exited
 founds = refl
+
+pub founds_gives : deed (run (boot lone_maker) (replicate 27 0)) 1 ≡ Gives first_page 2
+unfolding one instr_of call_of choice deed input_of next_entry charged turn exited
+founds_gives = refl
 
 -- both make, and the other's turn between them is none of the side's
 pub founds_both : length (run (run (boot lone_maker) (replicate 22 0)) maker_turns).objects ≡ 8

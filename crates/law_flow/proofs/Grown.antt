@@ -2,14 +2,12 @@
 use Rattle.std.proofs.Common.{arith, ◌≡◌, ◌⊎◌, ◌<◌, ℕ, [], ◌∷◌, ◌++◌, length, sym, ap, ◌∙◌, subst, inl, inr}
 use Rattle.std.specs.Prelude.{Bool, option_map, slice_get, Option, Some, None}
 use Rattle.nova_objects.specs.declared.object.Object.TheVariants.{Ec, Pd, Pt}
-use Rattle.nova_range.specs.declared.status.Status.TheVariants.{Success}
 use Rattle.nova_model.specs.Creation.{context_of, count_of, idle_semaphore, object_of, root_capability}
 use Rattle.nova_model.specs.State.{Contexts, KernelState, Semaphore, ec_in, entry, pd_of}
 use Rattle.nova_model.specs.declared.context.EcState.{EcState}
-use Rattle.nova_model.specs.declared.deed.Deed.TheVariants as deeds
 use Rattle.nova_model.specs.declared.delegation.Derivation.{Derivation}
 use Rattle.nova_model.specs.declared.new_object.NewObject.{NewObject}
-use Rattle.law_forest.specs.Effects.{Answers, edit_at}
+use Rattle.law_forest.specs.Effects.{Edit, edit_at}
 use Rattle.law_forest.specs.Turns.{turned}
 use Rattle.law_forest.proofs.Members.{contains_from_in, in_from_contains}
 use Rattle.law_turns.specs.Tables.{HasTables, Refers}
@@ -22,11 +20,10 @@ use Rattle.nova_model.specs.Capabilities.{is_sm}
 use Rattle.std.specs.Prelude.{is_some}
 use Rattle.law_flow.specs.Flow.{IsSide}
 use Rattle.law_flow.proofs.Creating.{IsMadeOf}
-use Rattle.law_flow.proofs.Doing.{by_deed}
 use Rattle.law_flow.proofs.Existing.{none_past}
 use Rattle.law_flow.proofs.Giving.{in_joined}
-use Rattle.law_flow.proofs.Keeping.{IsWell, QueueOwn, all_well}
-use Rattle.law_flow.proofs.Making.{new_handler, new_queue, new_well}
+use Rattle.law_flow.proofs.Keeping.{EditOwn, IsWell, QueueOwn, all_well}
+use Rattle.law_flow.proofs.Making.{born, new_handler, new_queue, new_well}
 
 -- a part and domains that have what is made, and else what they had
 pub record AreWider (k : KernelState) (S R P Q : ℕ → Type 0) : Type 0 where
@@ -41,9 +38,9 @@ well_up P Q up o well = record { waits = λ h is. up h (well.waits h is); serves
 well_none : (Q : ℕ → Type 0) → IsWell Q None
 well_none Q = record { waits = λ h is. absurd (cc); serves = λ c m is. absurd (cc); blocks = λ sm is. absurd (cc) }
 
-pub grown_side : (k : KernelState) (S R P Q : ℕ → Type 0) → IsSide k S P → HasTables k → AreHomed k → AreWider k S R P Q → (cpu ec sc call target : ℕ) (made : NewObject) → S (pd_of k ec) → IsMadeOf P made → (stirs : ℕ → Bool) →
-    IsSide (turned k cpu (by_deed k ec sc (deeds.Makes call target made) stirs)) R Q
-grown_side k S R P Q side tables homed w cpu ec sc call target made mine of stirs = record {
+pub grown_side : (k : KernelState) (S R P Q : ℕ → Type 0) → IsSide k S P → HasTables k → AreHomed k → AreWider k S R P Q → (cpu ec sc target : ℕ) (made : NewObject) (edit : Edit) → S (pd_of k ec) → IsMadeOf P made → EditOwn P edit → (stirs : ℕ → Bool) →
+    IsSide (turned k cpu (born k ec sc target made edit stirs)) R Q
+grown_side k S R P Q side tables homed w cpu ec sc target made edit mine of edits stirs = record {
   holds = λ d there r kind. elim (in_joined k.delegations.list root d (in_from_contains (k.delegations.list ++ root ∷ []) d there)) [
     | inl old ↦
         let was = contains_from_in k.delegations.list d old in w.up d.target (side.holds d was (w.domains d.pd (homed.holders d was) r) kind)
@@ -73,19 +70,19 @@ grown_side k S R P Q side tables homed w cpu ec sc call target made mine of stir
     ]
 
     answered : Contexts
-    answered = edit_at k.contexts ec (Answers Success None)
+    answered = edit_at k.contexts ec edit
 
-    old_well : (n : ℕ) → Q n → IsWell Q (ec_in (edit_at k.contexts ec (Answers Success None)) n)
+    old_well : (n : ℕ) → Q n → IsWell Q (ec_in (edit_at k.contexts ec edit) n)
     old_well n q = elim (w.down n q) [
       | inl p ↦
           well_up P Q w.up (ec_in answered n)
-          (all_well P k.contexts ((ec, Answers Success None) ∷ []) (λ i r. record { waits = λ h is. side.edges i h r is; serves = λ c came is. side.callers i c came r is; blocks = λ sm is. side.blocked i sm r is }) (tt, tt) n p)
+          (all_well P k.contexts ((ec, edit) ∷ []) (λ i r. record { waits = λ h is. side.edges i h r is; serves = λ c came is. side.callers i c came r is; blocks = λ sm is. side.blocked i sm r is }) (edits, tt) n p)
       | inr last ↦
           let long : length answered ≡ length k.objects = set_length k.contexts ec _ ∙ contexts_length k tables in
           subst (IsWell Q) (sym (ap (λ (o : Option (Option EcState)). entry o) (none_past answered n (omega (arith, long, last))))) (well_none Q)
     ]
 
-    well : (n : ℕ) → Q n → IsWell Q (ec_in (edit_at k.contexts ec (Answers Success None) ++ context_of (length k.objects) made ∷ []) n)
+    well : (n : ℕ) → Q n → IsWell Q (ec_in (edit_at k.contexts ec edit ++ context_of (length k.objects) made ∷ []) n)
     well n q = more_at (IsWell Q) answered (context_of (length k.objects) made) n (old_well n q) (λ none. new_well Q (length k.objects) made)
 
     queue : (sm : ℕ) → Q sm → QueueOwn Q (entry (slice_get k.semaphores sm))

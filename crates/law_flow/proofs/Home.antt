@@ -250,9 +250,9 @@ home_turn allowed a b x y S P C T U cpu first second alike together home abroad 
         let actor = actor_there a x cpu (stamped k r) one in
         let clock_so : HasSameClock k l r.actor = clock_same k l (Of P) (Of C) (processor_of k r.actor) timed (ap (λ (o : Option Object). C (processor_in o)) actor.object ∙ c) in
         let working = works r.actor r.sc own in
-        let within : is_giving (context k r.actor).state ≡ true → IsGivingWithin k (Of S) r.actor = λ giving. apart_gives allowed.creates a x S P T cpu r.actor r.sc first own giving working.state (working.gives giving) in
+        let within : is_giving (context k r.actor).state ≡ true → IsGivingWithin k (Of S) r.actor = λ giving. apart_gives allowed.creates a x S P T cpu r.actor r.sc first own (working.gives giving) in
         let again = works_too (Unit {0}) (RevokesNothing k (Of S)) (RevokesNothing l (Of S)) (allowed.revokes ≡ true) (allowed.creates ≡ true) k l (Of S) (Of P) two r.actor pays.2 its.of (revokes_second k l S P alike also side_too) working in
-        let within_too : is_giving (context l r.actor).state ≡ true → IsGivingWithin l (Of S) r.actor = λ giving. apart_gives allowed.creates b y S P U cpu r.actor r.sc second theirs giving again.state (again.gives giving) in
+        let within_too : is_giving (context l r.actor).state ≡ true → IsGivingWithin l (Of S) r.actor = λ giving. apart_gives allowed.creates b y S P U cpu r.actor r.sc second theirs (again.gives giving) in
         let state : (context l r.actor).state ≡ (context k r.actor).state = ap (λ (x : EcState). x.state) (context_same k l (Of S) (Of P) two r.actor pays.2 its.of) in
         let at_work : IsAtWork (HasSameClock k l r.actor) (AreGivingWithin k l (Of S) r.actor) (AreRevokingWithin k l (Of S)) (AreCreatingAlone k l (Of S) (Of P)) k r.actor =
         work_as (Unit {0}) (HasSameClock k l r.actor) (RevokesNothing k (Of S)) (AreGivingWithin k l (Of S) r.actor) (allowed.revokes ≡ true) (AreRevokingWithin k l (Of S)) (allowed.creates ≡ true) (AreCreatingAlone k l (Of S) (Of P)) k r.actor (λ none. clock_so)

@@ -1,8 +1,10 @@
 -- A side that creates stays apart from others in a turn in which nobody else makes an object.
 use Rattle.std.proofs.Common.{arith, ◌≡◌, ◌⊎◌, ℕ, suc, ◌+◌, List, [], ◌∷◌, ◌++◌, length, refl, sym, ap, ap₂, ◌∙◌, subst, inl, inr}
 use Rattle.std.specs.Prelude.{Bool, true, false, ◌&&◌, nat_lt, slice_get, Some, None}
+use Rattle.nova_objects.specs.ObjectTables.{is_domain}
 use Rattle.nova_objects.specs.declared.object.Object.{Object}
 use Rattle.nova_objects.specs.declared.object.Object.TheVariants.{Pd}
+use Rattle.nova_range.specs.declared.status.Status.TheVariants.{Success}
 use Rattle.nova_model.specs.Boot.{Scenario, boot}
 use Rattle.nova_model.specs.Creation.{object_of}
 use Rattle.nova_model.specs.Deeds.{deed}
@@ -10,10 +12,12 @@ use Rattle.nova_model.specs.Inputs.{is_stirred}
 use Rattle.nova_model.specs.Lines.{line}
 use Rattle.nova_model.specs.Runs.{after, run}
 use Rattle.nova_model.specs.State.{KernelState, pd_of}
+use Rattle.nova_model.specs.declared.context.State.TheVariants.{Granting}
 use Rattle.nova_model.specs.declared.deed.Deed.{Deed}
 use Rattle.nova_model.specs.declared.deed.Deed.TheVariants as deeds
 use Rattle.nova_model.specs.declared.new_object.NewObject.{NewObject}
-use Rattle.law_forest.specs.Effects.{branch_by, branched, made_by}
+use Rattle.nova_model.specs.declared.new_object.NewObject.TheVariants as new_object
+use Rattle.law_forest.specs.Effects.{Answers, Becomes, Edit, branch_by, branched, made_by}
 use Rattle.law_forest.specs.Turns.{turned}
 use Rattle.law_forest.proofs.Members.{contains_from_in, in_from_contains}
 use Rattle.law_turns.proofs.Setting.{get_joined, joined_length}
@@ -24,17 +28,18 @@ use Rattle.law_integrity.specs.Integrity.{Creates, Gives, GrowsByRight, Keeps, T
 use Rattle.law_integrity.proofs.Authorised.{authorised_by}
 use Rattle.law_integrity.proofs.Confining.{object_kept}
 use Rattle.law_integrity.proofs.Homes.{AreHomed, reached_homed}
-use Rattle.law_flow.specs.Flow.{DerivesWithin, IsAtWork, IsCreatingAlone, IsPartitioned, IsSide, RevokesNothing, domains, existing, is_domain, own_turn}
+use Rattle.law_flow.specs.Flow.{DerivesWithin, IsAtWork, IsCreatingAlone, IsPartitioned, IsSide, RevokesNothing, domains, existing, own_turn}
 use Rattle.law_flow.proofs.Creating.{IsMadeOf}
 use Rattle.law_flow.proofs.Doing.{by_deed}
 use Rattle.law_flow.proofs.Existing.{domain_at, existing_below, in_domains, in_existing, is_below, none_domains, of_domains, of_existing, past_is}
 use Rattle.law_flow.proofs.Grown.{AreWider, grown_side}
 use Rattle.law_flow.proofs.Growing.{grown_partitioned}
 use Rattle.law_flow.proofs.Guarding.{GoesOn, next_partitioned, none_made_by, others_derive}
-use Rattle.law_flow.proofs.Making.{rooted_derives}
+use Rattle.law_flow.proofs.Keeping.{EditOwn}
+use Rattle.law_flow.proofs.Making.{born, rooted_derives}
 use Rattle.law_flow.proofs.Numbers.{alone_more, alone_same}
 use Rattle.law_flow.proofs.Own.{own_goes_by}
-use Rattle.law_flow.proofs.Pairs.{Alone, IsOwnDeed, Leaf, New, Part, first_made, never, own_derives}
+use Rattle.law_flow.proofs.Pairs.{Alone, IsOwnDeed, Leaf, New, Open, Part, first_made, never, opens_well, own_derives}
 use Rattle.law_flow.proofs.Sets.{line_in}
 use Rattle.law_flow.proofs.Tables.{unjoined}
 use Rattle.law_flow.proofs.Turns.{IsOwnTurn, own_acts, own_is, own_turned, work_as}
@@ -134,13 +139,13 @@ own_lasts timed s before S P T cpu ec sc c own mine = by_mine mine
     member : IsMember (run (boot s) before) (Of (domains (run (boot s) before) S)) ec
     member = own_member (domains k S) k cpu ec sc sound own_there_
 
-    grown : (call target : ℕ) (made : NewObject) → deed (run (boot s) before) ec ≡ deeds.Makes call target made → IsMadeOf (Of (existing (run (boot s) before) P)) made →
-        IsCreatingApart (after (run (boot s) before) cpu) S P (more (run (boot s) before) T cpu)
-    grown call target made makes of = by_grows (authorised_by s before cpu ec (own_acts (domains k S) k cpu ec sc its)).2.grows
-      where
-        as_made : after (run (boot s) before) cpu ≡ turned (run (boot s) before) cpu (by_deed (run (boot s) before) ec sc (deeds.Makes call target made) (is_stirred (run (boot s) before) ec (deed (run (boot s) before) ec)))
-        as_made = is ∙ ap (λ (d : Deed). turned k cpu (by_deed k ec sc d (is_stirred k ec (deed k ec)))) makes
+    with_deed : (d : Deed) → deed (run (boot s) before) ec ≡ d → after (run (boot s) before) cpu ≡ turned (run (boot s) before) cpu (by_deed (run (boot s) before) ec sc d (is_stirred (run (boot s) before) ec (deed (run (boot s) before) ec)))
+    with_deed d does = is ∙ ap (λ (x : Deed). turned k cpu (by_deed k ec sc x (is_stirred k ec (deed k ec)))) does
 
+    grown : (target : ℕ) (made : NewObject) (edit : Edit) → after (run (boot s) before) cpu ≡ turned (run (boot s) before) cpu (born (run (boot s) before) ec sc target made edit (is_stirred (run (boot s) before) ec (deed (run (boot s) before) ec))) →
+        IsMadeOf (Of (existing (run (boot s) before) P)) made → EditOwn (Of (existing (run (boot s) before) P)) edit → IsCreatingApart (after (run (boot s) before) cpu) S P (more (run (boot s) before) T cpu)
+    grown target made edit as_made of edits = by_grows (authorised_by s before cpu ec (own_acts (domains k S) k cpu ec sc its)).2.grows
+      where
         objects : (after (run (boot s) before) cpu).objects ≡ (run (boot s) before).objects ++ object_of made ∷ []
         objects = ap (λ (l : KernelState). l.objects) as_made
 
@@ -170,7 +175,7 @@ own_lasts timed s before S P T cpu ec sc c own mine = by_mine mine
 
         side : IsSide (after (run (boot s) before) cpu) (Of (domains (after (run (boot s) before) cpu) S)) (Of (existing (after (run (boot s) before) cpu) P))
         side = subst (λ (l : KernelState). IsSide l (Of (domains new S)) (Of (existing new P))) (sym as_made)
-            (grown_side k (Of (domains k S)) (Of (domains new S)) (Of (existing k P)) (Of (existing new P)) c.part.side sound.kept.tables homed wider cpu ec sc call target made its.of of (is_stirred k ec (deed k ec)))
+            (grown_side k (Of (domains k S)) (Of (domains new S)) (Of (existing k P)) (Of (existing new P)) c.part.side sound.kept.tables homed wider cpu ec sc target made edit its.of of edits (is_stirred k ec (deed k ec)))
 
         by_grows : GrowsByRight (run (boot s) before) (after (run (boot s) before) cpu) ec → IsCreatingApart (after (run (boot s) before) cpu) S P (more (run (boot s) before) T cpu)
         by_grows (Keeps same delegated) = absurd (not_same same)
@@ -205,7 +210,9 @@ own_lasts timed s before S P T cpu ec sc c own mine = by_mine mine
     by_mine (Alone does) = still (Alone does)
     by_mine (Part child cursor gives part) = still (Part child cursor gives part)
     by_mine (Leaf leaf takes its_leaf) = still (Leaf leaf takes its_leaf)
-    by_mine (New call target made makes creates of) = grown call target made makes of
+    by_mine (New call target made makes creates of) = grown target made (Answers Success None) (with_deed (deeds.Makes call target made) makes) of tt
+    by_mine (Open target domain opens creates) =
+        grown target new_object.Pd (Becomes (Granting (Some domain))) (with_deed (deeds.Opens target domain) opens) tt (opens_well (Of (existing k P)) domain)
 
 -- and nothing of others is made of what it holds
 pub own_derive_last : (timed : Type 0) (s : Scenario) (before : List ℕ) (S P : ℕ → Bool) (cpu ec sc : ℕ) → own_turn S (run (boot s) before) cpu ≡ Some (ec, sc) →
@@ -236,3 +243,5 @@ own_derive_last timed s before S P cpu ec sc own mine within = by_mine mine
     by_mine (Leaf leaf takes its_leaf) = still (Leaf leaf takes its_leaf)
     by_mine (New call target made makes creates of) =
         rooted_derives k (after k cpu) (Of S) (reached_sound s before).forest (pd_of k ec) target made (delegations ∙ ap (λ (d : Deed). branched k.delegations (branch_by k ec d)) makes) within
+    by_mine (Open target domain opens creates) =
+        rooted_derives k (after k cpu) (Of S) (reached_sound s before).forest (pd_of k ec) target new_object.Pd (delegations ∙ ap (λ (d : Deed). branched k.delegations (branch_by k ec d)) opens) within

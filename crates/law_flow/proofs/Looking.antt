@@ -18,6 +18,7 @@ use Rattle.nova_model.specs.declared.delegation.Derivation.{Derivation}
 use Rattle.law_forest.specs.Within.{LeadsTo}
 use Rattle.law_forest.proofs.Members.{IsIn, found_in}
 use Rattle.law_forest.proofs.Transfers.{kinds_equal}
+use Rattle.law_integrity.proofs.Meeting.{IsCalm}
 use Rattle.law_flow.specs.Examples.{first_objects}
 
 -- NUMBERS
@@ -102,14 +103,6 @@ led list pd page to is = by_found (find (covers Mem pd page) list) refl is
         record { derivation = d; there = its.0; its = eqb-true d.pd pd rest.0; kind = sym (kinds_equal Mem d.kind parts.0); leads = record { first = bounds.0; last = bounds.1 } }
 
 -- A CONTEXT THAT WAITS FOR NONE
-
-abbrev pub IsCalm : Option State → Type 0
-IsCalm None = Unit {0}
-IsCalm (Some Dead) = Unit {0}
-IsCalm (Some Fresh) = Unit {0}
-IsCalm (Some Parked) = Unit {0}
-IsCalm (Some Ready) = Unit {0}
-IsCalm other = ⊥
 
 pub calm_edge : (o : Option State) (handler : ℕ) → IsCalm o → option_and_then edge_of o ≡ Some handler → ⊥
 calm_edge None handler c e = cc

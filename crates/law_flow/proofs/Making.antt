@@ -8,7 +8,6 @@ use Rattle.nova_objects.specs.declared.object.Object.{Object}
 use Rattle.nova_objects.specs.declared.object.Object.TheVariants.{Ec, Pt}
 use Rattle.nova_range.specs.declared.range.Kind.{Kind}
 use Rattle.nova_range.specs.declared.range.Kind.TheVariants.{Mem}
-use Rattle.nova_range.specs.declared.status.Status.TheVariants.{Success}
 use Rattle.nova_model.specs.Capabilities.{is_ec, is_pt, is_sc, is_sm}
 use Rattle.nova_model.specs.Creation.{budget_of, context_of, count_of, identifier_of, idle_semaphore, object_of, root_capability, transfer_of, words_of}
 use Rattle.nova_model.specs.Delegations.{added, covers, page_in, reach}
@@ -17,12 +16,11 @@ use Rattle.nova_model.specs.Lines.{line}
 use Rattle.nova_model.specs.State.{Contexts, KernelState, entry, pd_in, pd_of}
 use Rattle.nova_model.specs.declared.budget.Budget.{Budget}
 use Rattle.nova_model.specs.declared.context.EcState.{EcState}
-use Rattle.nova_model.specs.declared.deed.Deed.TheVariants as deeds
 use Rattle.nova_model.specs.declared.delegation.Derivation.{Derivation}
 use Rattle.nova_model.specs.declared.new_object.NewObject.{NewObject}
 use Rattle.nova_model.specs.declared.new_object.NewObject.TheVariants as new
-use Rattle.law_forest.specs.Effects.{Answers, edit_at}
-use Rattle.law_forest.specs.Turns.{turned}
+use Rattle.law_forest.specs.Effects.{Edit, Joins, edit_at}
+use Rattle.law_forest.specs.Turns.{Turning, turned}
 use Rattle.law_forest.proofs.Members.{IsIn, contains_from_in, found_in, in_from_contains}
 use Rattle.law_forest.proofs.Scopes.{KeepsParents, more_keeps, next_childless}
 use Rattle.law_turns.specs.Tables.{HasTables, has_words}
@@ -32,10 +30,10 @@ use Rattle.law_turns.proofs.TablesKept.{contexts_length}
 use Rattle.law_integrity.proofs.Entries.{same_length}
 use Rattle.law_flow.specs.Flow.{AreAlike, AreDerivedAlike, DerivesWithin, Front, Held, IsCreatingAlone, IsSide, front_of, fronts, held_by, origin_of}
 use Rattle.law_flow.proofs.Creating.{AreMaking, IsMadeOf}
-use Rattle.law_flow.proofs.Doing.{by_deed, frames_same, paid_same, shown_contexts, ticks_in}
+use Rattle.law_flow.proofs.Doing.{frames_same, paid_same, shown_contexts, ticks_in}
 use Rattle.law_flow.proofs.Giving.{find_joined, in_joined, spaces_joined, twin_covers}
 use Rattle.law_flow.proofs.Holds.{IsTwin}
-use Rattle.law_flow.proofs.Keeping.{AreWell, IsWell, QueueOwn, all_well}
+use Rattle.law_flow.proofs.Keeping.{AreWell, EditOwn, IsWell, QueueOwn, all_well}
 use Rattle.law_flow.proofs.Origins.{either, or_else, origin_joined, origin_or}
 use Rattle.law_flow.proofs.Seeing.{Both, pd_same, some_held}
 use Rattle.law_flow.proofs.Sets.{line_alone, line_kept}
@@ -97,7 +95,26 @@ origins_rooted k l x y keeps also kind pd place from t own held origins =
     ∙ sym (ap (origin_of (k.delegations.list ++ x ∷ []) from) (find_joined (covers kind pd place) k.delegations.list x)
     ∙ origin_joined k.delegations.list x keeps from (covers kind pd place x) (find (covers kind pd place) k.delegations.list) (λ d is. (found_in (covers kind pd place) k.delegations.list d is).0))
 
--- A TURN
+-- A TURN IN WHICH AN OBJECT IS MADE
+
+-- by one of the maker's number, which holds its capability at a selector, and is itself edited so
+abbrev pub born : KernelState → ℕ → ℕ → ℕ → NewObject → Edit → (ℕ → Bool) → Turning
+born k ec sc target made edit stirs = record {
+  effect = record {
+    made = Some made;
+    branch = Some (Joins (root_capability k (pd_of k ec) target (object_of made)));
+    edits = (ec, edit) ∷ [];
+    words = None;
+    transfer = None;
+    identifier = None;
+    semaphore = None;
+    store = None;
+    deadline = None;
+    rings = None;
+  };
+  stirs = stirs;
+  charge = Some sc;
+}
 
 born_ticks : (stamp other : ℕ) (made : NewObject) → option_map (λ (b : Budget). b.ticks) (budget_of other made) ≡ option_map (λ (b : Budget). b.ticks) (budget_of stamp made)
 born_ticks stamp other (new.Sc ec cpu priority quantum) = refl
@@ -129,21 +146,21 @@ long_tables k size t is = record {
   deadlines = t.deadlines ∙ is;
 }
 
-pub made_alike : (k l : KernelState) (S P : ℕ → Type 0) → Both k l S P → IsForest k.delegations → IsForest l.delegations → AreMaking k l S P → (cpu other ec sc call target : ℕ) (made : NewObject) → P ec → (stirs others : ℕ → Bool) →
-    AreAlike (turned k cpu (by_deed k ec sc (deeds.Makes call target made) stirs)) (turned l other (by_deed l ec sc (deeds.Makes call target made) others)) S P
-made_alike k l S P b forest further m cpu other ec sc call target made p stirs others = record {
+pub made_alike : (k l : KernelState) (S P : ℕ → Type 0) → Both k l S P → IsForest k.delegations → IsForest l.delegations → AreMaking k l S P → (cpu other ec sc target : ℕ) (made : NewObject) (edit : Edit) → P ec → (stirs others : ℕ → Bool) →
+    AreAlike (turned k cpu (born k ec sc target made edit stirs)) (turned l other (born l ec sc target made edit others)) S P
+made_alike k l S P b forest further m cpu other ec sc target made edit p stirs others = record {
   objects = joined_alike P size k.objects l.objects (object_of made) (object_of made) refl second.objects refl (λ n away q. b.alike.objects n q);
   fronts = λ n q.
       ap (λ (fs : List (Option Front)). slice_get fs n) (fronts_joined (answered_in l) (context_of (length l.objects) made))
       ∙ joined_alike P size (fronts (answered_in k)) (fronts (answered_in l)) (option_map front_of (context_of (length k.objects) made)) (option_map front_of (context_of (length l.objects) made))
       (fronts_length (answered_in k) ∙ long k ∙ first.contexts) (fronts_length (answered_in l) ∙ long l ∙ second.contexts)
       (ap (λ (i : ℕ). option_map front_of (context_of i made)) second.objects)
-      (λ i away r. fronts_alike P k.contexts l.contexts ((ec, Answers Success None) ∷ []) b.alike.fronts i r) n q
+      (λ i away r. fronts_alike P k.contexts l.contexts ((ec, edit) ∷ []) b.alike.fronts i r) n q
       ∙ sym (ap (λ (fs : List (Option Front)). slice_get fs n) (fronts_joined (answered_in k) (context_of (length k.objects) made)));
   contexts = λ n q its.
       joined_alike Ours size (answered_in k) (answered_in l) (context_of (length k.objects) made) (context_of (length l.objects) made) (long k ∙ first.contexts) (long l ∙ second.contexts)
       (ap (λ (i : ℕ). context_of i made) second.objects)
-      (λ i away r. edits_alike (λ j. P j × S (pd_of k j)) k.contexts l.contexts ((ec, Answers Success None) ∷ []) (shown_contexts k l S P b) i (r.0, was i away r.1)) n (q, its);
+      (λ i away r. edits_alike (λ j. P j × S (pd_of k j)) k.contexts l.contexts ((ec, edit) ∷ []) (shown_contexts k l S P b) i (r.0, was i away r.1)) n (q, its);
   messages = λ n q its.
       joined_alike Ours size k.messages l.messages (words_of (object_of made)) (words_of (object_of made)) first.messages second.messages refl (λ i away r. b.alike.messages i r.0 (was i away r.1)) n (q, its);
   transfers = λ n q its.
@@ -180,9 +197,9 @@ made_alike k l S P b forest further m cpu other ec sc call target made p stirs o
     second = long_tables l (length k.objects) m.second m.alone.objects
 
     answered_in : KernelState → Contexts
-    answered_in j = edit_at j.contexts ec (Answers Success None)
+    answered_in j = edit_at j.contexts ec edit
 
-    long : (j : KernelState) → length (edit_at j.contexts ec (Answers Success None)) ≡ length j.contexts
+    long : (j : KernelState) → length (edit_at j.contexts ec edit) ≡ length j.contexts
     long j = set_length j.contexts ec _
 
     Ours : ℕ → Type 0
@@ -243,9 +260,9 @@ new_handler P (new.Ec pd cpu kind sp event) handler mtd ip of is = absurd (cc)
 new_handler P (new.Sc ec cpu priority quantum) handler mtd ip of is = absurd (cc)
 new_handler P (new.Sm count) handler mtd ip of is = absurd (cc)
 
-pub made_side : (k : KernelState) (S P : ℕ → Type 0) → IsSide k S P → IsCreatingAlone k S P → (cpu ec sc call target : ℕ) (made : NewObject) → IsMadeOf P made → (stirs : ℕ → Bool) →
-    IsSide (turned k cpu (by_deed k ec sc (deeds.Makes call target made) stirs)) S P
-made_side k S P side alone cpu ec sc call target made of stirs = record {
+pub made_side : (k : KernelState) (S P : ℕ → Type 0) → IsSide k S P → IsCreatingAlone k S P → (cpu ec sc target : ℕ) (made : NewObject) (edit : Edit) → IsMadeOf P made → EditOwn P edit → (stirs : ℕ → Bool) →
+    IsSide (turned k cpu (born k ec sc target made edit stirs)) S P
+made_side k S P side alone cpu ec sc target made edit of edits stirs = record {
   holds = λ d there s kind. elim (in_joined k.delegations.list mine d (in_from_contains (k.delegations.list ++ mine ∷ []) d there)) [
     | inl old ↦ side.holds d (contains_from_in k.delegations.list d old) s kind
     | inr same ↦ subst (λ (e : Derivation). P e.target) (sym same) last
@@ -270,10 +287,10 @@ made_side k S P side alone cpu ec sc call target made of stirs = record {
     last : P (length k.objects)
     last = alone.objects (length k.objects) (omega arith)
 
-    well : AreWell P (edit_at k.contexts ec (Answers Success None) ++ context_of (length k.objects) made ∷ [])
+    well : AreWell P (edit_at k.contexts ec edit ++ context_of (length k.objects) made ∷ [])
     well n q =
-        more_at (IsWell P) (edit_at k.contexts ec (Answers Success None)) (context_of (length k.objects) made) n
-        (all_well P k.contexts ((ec, Answers Success None) ∷ []) (λ i r. record { waits = λ h is. side.edges i h r is; serves = λ c came is. side.callers i c came r is; blocks = λ sm is. side.blocked i sm r is }) (tt, tt) n q)
+        more_at (IsWell P) (edit_at k.contexts ec edit) (context_of (length k.objects) made) n
+        (all_well P k.contexts ((ec, edit) ∷ []) (λ i r. record { waits = λ h is. side.edges i h r is; serves = λ c came is. side.callers i c came r is; blocks = λ sm is. side.blocked i sm r is }) (edits, tt) n q)
         (λ none. new_well P (length k.objects) made)
 
 -- RANGES OF THE SIDE

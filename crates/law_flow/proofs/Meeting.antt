@@ -32,11 +32,12 @@ use Rattle.nova_model.specs.declared.times.Deadline.{Deadline}
 use Rattle.law_forest.specs.Within.{LeadsTo}
 use Rattle.law_forest.proofs.Members.{IsIn, all_at, in_from_contains}
 use Rattle.law_integrity.specs.Confined.{AreSetsApart, IsClosed, IsIdle, IsMember, IsOwned, Of}
+use Rattle.law_integrity.proofs.Meeting.{IsCalm}
 use Rattle.law_turns.specs.Links.{caller_at as caller_of, state_at as state_of}
 use Rattle.law_flow.specs.Examples.{first_domains, first_objects, first_processors, other_domains, two_homes}
 use Rattle.law_flow.specs.Flow.{IsPartitioned, IsTimeless, own_turn}
 use Rattle.law_flow.specs.Processors.{IsDivided}
-use Rattle.law_flow.proofs.Looking.{AllAt, IsCalm, at_all, calm_context, calm_edge, calm_wait, either, entry_at, led, looked_up, no, own_object}
+use Rattle.law_flow.proofs.Looking.{AllAt, at_all, calm_context, calm_edge, calm_wait, either, entry_at, led, looked_up, no, own_object}
 
 -- WHAT THE PREMISES LOOK AT
 

@@ -29,7 +29,7 @@ use Rattle.law_flow.specs.Flow.{DerivesWithin, held_by, IsPartitioned, IsSide, I
 use Rattle.law_flow.proofs.Deciding.{IsOwn}
 use Rattle.law_flow.proofs.Doing.{branch_none, by_deed}
 use Rattle.law_flow.proofs.Giving.{in_joined, part_leads}
-use Rattle.law_flow.proofs.Pairs.{Alone, IsOwnDeed, Leaf, New, Part, never, first_made, less_was, own_derives, own_turned_side}
+use Rattle.law_flow.proofs.Pairs.{Alone, IsOwnDeed, Leaf, New, Open, Part, never, first_made, less_was, own_derives, own_turned_side}
 use Rattle.law_flow.proofs.Taking.{led_before}
 use Rattle.law_flow.proofs.Within.{own_at}
 use Rattle.law_flow.proofs.Tables.{unjoined}
@@ -64,6 +64,7 @@ own_no_date creating k S P ec d (Alone own) m e is = no_date P ec d own m e is
 own_no_date creating k S P ec d (Part child cursor gives part) m e is = absurd (let none : None ≡ Some (m, e) = sym (ap (deadline_by ec) gives) ∙ is in cc)
 own_no_date creating k S P ec d (Leaf leaf takes mine) m e is = absurd (let none : None ≡ Some (m, e) = sym (ap (deadline_by ec) takes) ∙ is in cc)
 own_no_date creating k S P ec d (New call target made makes creates of) m e is = absurd (let none : None ≡ Some (m, e) = sym (ap (deadline_by ec) makes) ∙ is in cc)
+own_no_date creating k S P ec d (Open target domain opens creates) m e is = absurd (let none : None ≡ Some (m, e) = sym (ap (deadline_by ec) opens) ∙ is in cc)
 
 pub own_goes_by : (timed : Type 0) (s : Scenario) (before : List ℕ) (S P : ℕ → Bool) (T : ℕ → Type 0) (cpu ec sc : ℕ) → IsPartitioned (run (boot s) before) (Of S) T (Of P) →
     own_turn S (run (boot s) before) cpu ≡ Some (ec, sc) →
@@ -130,6 +131,7 @@ own_goes_by timed s before S P T cpu ec sc c own mine = next_partitioned s befor
           };
         }
     by_own (New call target made makes creates of) = absurd (never creates)
+    by_own (Open target domain opens creates) = absurd (never creates)
 
     on : GoesOn (run (boot s) before) (after (run (boot s) before) cpu) (Of S) (Of P)
     on = by_own mine

@@ -1,8 +1,9 @@
--- What one of a side does in two states in which the side's part is the same: one deed with the side alone, or a part that is given within the side, or a leaf of its own that a revoke takes away, the same but for numbers.
+-- What one of a side does in two states in which the side's part is the same: one deed with the side alone, or a part that is given within the side, or a leaf of its own that a revoke takes away, the same but for numbers; or an object that it makes.
 use Rattle.std.proofs.Common.{arith, ◌≡◌, ℕ, ◌+◌, ◌==◌, refl, sym, ap, ap₂, ◌∙◌, subst}
 use Rattle.std.specs.Prelude.{Bool, true, false, Contains, IsSome, not, Option, Some, None}
 use Rattle.std.proofs.lemmas.Option.{same_Some}
 use Rattle.nova_range.specs.declared.range.Range.{Range}
+use Rattle.nova_range.specs.declared.status.Status.TheVariants.{Success}
 use Rattle.nova_model.specs.Deeds.{deed, deed_in, removes}
 use Rattle.nova_model.specs.Delegations.{Delegations, added, without}
 use Rattle.nova_model.specs.Edges.{is_giving}
@@ -11,20 +12,20 @@ use Rattle.nova_model.specs.Revokes.{Revocation, next_leaf}
 use Rattle.nova_model.specs.State.{KernelState, context, pd_of}
 use Rattle.nova_model.specs.Turn.{event_by}
 use Rattle.nova_model.specs.declared.context.EcState.{EcState}
-use Rattle.nova_model.specs.declared.context.Mark.{Mark}
 use Rattle.nova_model.specs.declared.context.State.{State}
-use Rattle.nova_model.specs.declared.context.State.TheVariants.{Revoking}
+use Rattle.nova_model.specs.declared.context.State.TheVariants.{Granting, Revoking}
 use Rattle.nova_model.specs.declared.deed.Deed.{Deed}
 use Rattle.nova_model.specs.declared.deed.Deed.TheVariants as deeds
 use Rattle.nova_model.specs.declared.delegation.Derivation.{Derivation}
 use Rattle.nova_model.specs.declared.new_object.NewObject.{NewObject}
+use Rattle.nova_model.specs.declared.new_object.NewObject.TheVariants as new
 use Rattle.law_forest.specs.Changes.{Goes, Joins, Stays}
-use Rattle.law_forest.specs.Effects.{branch_by, branched, made_by, store_by}
+use Rattle.law_forest.specs.Effects.{Answers, Becomes, branch_by, branched, made_by, store_by}
 use Rattle.law_forest.specs.Turns.{turned}
 use Rattle.law_forest.proofs.Leaves.{leaf_facts}
 use Rattle.law_forest.proofs.Members.{contains_from_in, filtered_in, in_from_contains}
-use Rattle.law_turns.specs.Giving.{gives_no_first}
 use Rattle.law_turns.specs.Revoking.{is_revoking}
+use Rattle.law_integrity.specs.Rights.{GivesTo}
 use Rattle.law_flow.specs.Flow.{AreAlike, AreDerivedAlike, AreGivingWithin, AreRevokingWithin, DerivesWithin, HasSameClock, Held, IsAtWork, IsCreatingAlone, IsSameRange, IsSide, held_by, unnumbered}
 use Rattle.law_flow.specs.Processors.{unnumbered_event}
 use Rattle.law_flow.proofs.Creating.{AreMaking, IsMadeOf}
@@ -33,7 +34,7 @@ use Rattle.law_flow.proofs.Doing.{branch_none, by_deed, made_none, turned_alike}
 use Rattle.law_flow.proofs.Giving.{part_alike, part_side}
 use Rattle.law_flow.proofs.Holds.{IsTwin}
 use Rattle.law_flow.proofs.Leaves.{AreSameOr, in_scope_mine, leaf_same}
-use Rattle.law_flow.proofs.Keeping.{turned_side}
+use Rattle.law_flow.proofs.Keeping.{EditOwn, turned_side}
 use Rattle.law_flow.proofs.Making.{made_alike, made_side, rooted_derived, rooted_derives}
 use Rattle.law_flow.proofs.Parts.{GivesItems, IsPart, given_same, gives_items, part_is, sources_same}
 use Rattle.law_flow.proofs.Seeing.{Both, context_same, pd_same}
@@ -45,6 +46,7 @@ pub data IsOwnDeed (timed creating : Type 0) (k : KernelState) (S P : ℕ → Ty
   Part : (child : Derivation) (cursor : ℕ) → d ≡ deeds.Gives child cursor → IsPart k S child → IsOwnDeed timed creating k S P d
   Leaf : (leaf : Derivation) → d ≡ deeds.Removes leaf → IsOwnLeaf k S leaf → IsOwnDeed timed creating k S P d
   New : (call target : ℕ) (made : NewObject) → d ≡ deeds.Makes call target made → creating → IsMadeOf P made → IsOwnDeed timed creating k S P d
+  Open : (target domain : ℕ) → d ≡ deeds.Opens target domain → creating → IsOwnDeed timed creating k S P d
 
 -- and in both
 pub data AreOwn (timed creating : Type 0) (k l : KernelState) (S P : ℕ → Type 0) (d e : Deed) : Type 0 where
@@ -53,6 +55,7 @@ pub data AreOwn (timed creating : Type 0) (k l : KernelState) (S P : ℕ → Typ
       IsTwin part.source also.source → AreOwn timed creating k l S P d e
   Leaves : (leaf twin : Derivation) → d ≡ deeds.Removes leaf → e ≡ deeds.Removes twin → IsSameRange k l S leaf twin → IsOwnLeaf k S leaf → IsOwnLeaf l S twin → AreOwn timed creating k l S P d e
   News : (call target : ℕ) (made : NewObject) → d ≡ deeds.Makes call target made → e ≡ d → creating → IsMadeOf P made → AreOwn timed creating k l S P d e
+  Opens : (target domain : ℕ) → d ≡ deeds.Opens target domain → e ≡ d → creating → AreOwn timed creating k l S P d e
 
 -- one that makes no object
 pub never : false ≡ true → ⊥
@@ -152,10 +155,12 @@ revoking_one timed creating k S P forest ec s within takes = by_state (context k
 
 one_does : (timed creating : Type 0) (k : KernelState) (S P : ℕ → Type 0) (d : Deed) → MayDo timed creating P d → IsOwnDeed timed creating k S P d
 one_does timed creating k S P (deeds.Makes call target made) may = New call target made refl may.0 may.1
+one_does timed creating k S P (deeds.Opens target domain) may = Open target domain refl may
 one_does timed creating k S P other may = Alone may
 
 both_do : (timed creating : Type 0) (k l : KernelState) (S P : ℕ → Type 0) (d e : Deed) → e ≡ d → MayDo timed creating P d → AreOwn timed creating k l S P d e
 both_do timed creating k l S P (deeds.Makes call target made) e same may = News call target made refl same may.0 may.1
+both_do timed creating k l S P (deeds.Opens target domain) e same may = Opens target domain refl same may
 both_do timed creating k l S P other e same may = One same may
 
 pub own_both : (k l : KernelState) (S P : ℕ → Type 0) → Both k l S P → IsForest k.delegations → IsForest l.delegations → (ec : ℕ) → P ec → S (pd_of k ec) →
@@ -170,10 +175,10 @@ own_both k l S P b first second ec p s works = by_test (is_giving (context k ec)
     by_test true is u its =
         let g = works.gives is in
         paired (HasSameClock k l ec) (AreMaking k l S P) k l S P (deed k ec) (deed l ec) (gives_items k ec is)
-        (given_same k l S P b first second ec p s g.first g.second.unrevoked is works.state)
-        (part_is k S ec first s g.first.caller works.state)
-        (part_is l S ec second (subst S (sym (pd_same k l S P b ec p)) s) g.second.caller (ap (λ (x : EcState). gives_no_first x.state) (context_same k l S P b ec p s) ∙ works.state))
-        (sources_same k l S P b first second ec p s g.first is works.state)
+        (given_same k l S P b first second ec p s g.first g.second.unrevoked is)
+        (part_is k S ec first g.first.between)
+        (part_is l S ec second g.second.between)
+        (sources_same k l S P b first second ec p s g.first is)
 
 one_of : (timed creating : Type 0) (k : KernelState) (S P : ℕ → Type 0) (d : Deed) → GivesItems d → ((child : Derivation) (cursor : ℕ) → d ≡ deeds.Gives child cursor → IsPart k S child) → IsOwnDeed timed creating k S P d
 one_of timed creating k S P deeds.Rests items mine = Alone tt
@@ -183,13 +188,13 @@ one_of timed creating k S P (deeds.Gives child cursor) items mine = Part child c
 one_of timed creating k S P other items mine = absurd items
 
 pub own_one : (timed giving revoking creating : Type 0) (k : KernelState) (S P : ℕ → Type 0) → Both k k S P → IsForest k.delegations → (ec : ℕ) → P ec → S (pd_of k ec) → IsAtWork timed giving revoking creating k ec →
-    (is_giving (context k ec).state ≡ true → (n : ℕ) (mark : Mark) → (context k ec).caller ≡ Some (n, mark) → S (pd_of k n)) → (revoking → DerivesWithin k S) → IsOwnDeed timed creating k S P (deed k ec)
-own_one timed giving revoking creating k S P b forest ec p s works served within = by_test (is_giving (context k ec).state) refl (is_revoking (context k ec).state) refl
+    ((giver receiver : ℕ) → GivesTo k ec giver receiver → S giver × S receiver) → (revoking → DerivesWithin k S) → IsOwnDeed timed creating k S P (deed k ec)
+own_one timed giving revoking creating k S P b forest ec p s works between within = by_test (is_giving (context k ec).state) refl (is_revoking (context k ec).state) refl
   where
     by_test : (t : Bool) → is_giving (context k ec).state ≡ t → (u : Bool) → is_revoking (context k ec).state ≡ u → IsOwnDeed timed creating k S P (deed k ec)
     by_test false is false calm = one_does timed creating k S P (deed k ec) (deed_own timed giving revoking creating k k S P b ec p s works is calm)
     by_test false is true takes = revoking_one timed creating k S P forest ec s (within (works.revokes takes)) takes
-    by_test true is u its = one_of timed creating k S P (deed k ec) (gives_items k ec is) (part_is k S ec forest s (served is) works.state)
+    by_test true is u its = one_of timed creating k S P (deed k ec) (gives_items k ec is) (part_is k S ec forest between)
 
 -- WHAT FOLLOWS
 
@@ -198,6 +203,7 @@ first_own timed creating k l S P d e (One same own) = Alone own
 first_own timed creating k l S P d e (Parts child twin cursor is its t part also from) = Part child cursor is part
 first_own timed creating k l S P d e (Leaves leaf twin is its t mine other) = Leaf leaf is mine
 first_own timed creating k l S P d e (News call target made is same creates of) = New call target made is creates of
+first_own timed creating k l S P d e (Opens target domain is same creates) = Open target domain is creates
 
 abbrev bare : ℕ → Held → Derivation
 bare pd h = record { id = 0; pd = pd; kind = h.range.kind; base = h.range.base; order = h.range.order; rights = h.rights; target = h.target; parent = None }
@@ -208,6 +214,7 @@ same_unnumbered timed creating k l S P d e (Parts child twin cursor is its t par
     ap unnumbered its ∙ ap₂ (λ (n : ℕ) (h : Held). deeds.Gives (bare n h) cursor) t.pd t.held ∙ sym (ap unnumbered is)
 same_unnumbered timed creating k l S P d e (Leaves leaf twin is its t mine other) = ap unnumbered its ∙ ap₂ (λ (n : ℕ) (h : Held). deeds.Removes (bare n h)) t.pd t.held ∙ sym (ap unnumbered is)
 same_unnumbered timed creating k l S P d e (News call target made is same creates of) = ap unnumbered same
+same_unnumbered timed creating k l S P d e (Opens target domain is same creates) = ap unnumbered same
 
 event_so : (cpu sc ec : ℕ) (d : Deed) → unnumbered_event (event_by cpu sc ec d) ≡ unnumbered_event (event_by cpu sc ec (unnumbered d))
 event_so cpu sc ec (deeds.Gives child cursor) = refl
@@ -222,6 +229,7 @@ first_made timed creating k S P d none (Alone own) = made_none timed P d own
 first_made timed creating k S P d none (Part child cursor is part) = ap made_by is
 first_made timed creating k S P d none (Leaf leaf is mine) = ap made_by is
 first_made timed creating k S P d none (New call target made is creates of) = absurd (none creates)
+first_made timed creating k S P d none (Open target domain is creates) = absurd (none creates)
 
 none_some : (o : Option NewObject) → o ≡ None → IsSome o → ⊥
 none_some None is some = absurd (cc)
@@ -233,6 +241,7 @@ made_creating timed creating k S P d (Alone own) some = absurd (none_some (made_
 made_creating timed creating k S P d (Part child cursor is part) some = absurd (none_some (made_by d) (ap made_by is) some)
 made_creating timed creating k S P d (Leaf leaf is mine) some = absurd (none_some (made_by d) (ap made_by is) some)
 made_creating timed creating k S P d (New call target made is creates of) some = creates
+made_creating timed creating k S P d (Open target domain is creates) some = creates
 
 -- as much is made in both
 pub same_made : (timed creating : Type 0) (k l : KernelState) (S P : ℕ → Type 0) (d e : Deed) → AreOwn timed creating k l S P d e → made_by e ≡ made_by d
@@ -240,12 +249,18 @@ same_made timed creating k l S P d e (One same own) = ap made_by same
 same_made timed creating k l S P d e (Parts child twin cursor is its t part also from) = ap made_by its ∙ sym (ap made_by is)
 same_made timed creating k l S P d e (Leaves leaf twin is its t mine other) = ap made_by its ∙ sym (ap made_by is)
 same_made timed creating k l S P d e (News call target made is same creates of) = ap made_by same
+same_made timed creating k l S P d e (Opens target domain is same creates) = ap made_by same
 
 pub store_so : (timed creating : Type 0) (k l m : KernelState) (S P : ℕ → Type 0) (ec : ℕ) (d e : Deed) → AreOwn timed creating k l S P d e → store_by m ec e ≡ store_by m ec d
 store_so timed creating k l m S P ec d e (One same own) = ap (store_by m ec) same
 store_so timed creating k l m S P ec d e (Parts child twin cursor is its t part also from) = ap (store_by m ec) its ∙ sym (ap (store_by m ec) is)
 store_so timed creating k l m S P ec d e (Leaves leaf twin is its t mine other) = ap (store_by m ec) its ∙ sym (ap (store_by m ec) is)
 store_so timed creating k l m S P ec d e (News call target made is same creates of) = ap (store_by m ec) same
+store_so timed creating k l m S P ec d e (Opens target domain is same creates) = ap (store_by m ec) same
+
+-- who opens a domain waits for nobody
+pub opens_well : (P : ℕ → Type 0) (domain : ℕ) → EditOwn P (Becomes (Granting (Some domain)))
+opens_well P domain = (λ h is. absurd (cc), λ sm is. absurd (cc))
 
 pub own_turned_side : (timed creating : Type 0) (k : KernelState) (S P : ℕ → Type 0) → IsSide k S P → IsForest k.delegations → (creating → IsCreatingAlone k S P) → (cpu ec sc : ℕ) → P ec → (d : Deed) → IsOwnDeed timed creating k S P d → (stirs : ℕ → Bool) →
     IsSide (turned k cpu (by_deed k ec sc d stirs)) S P
@@ -255,7 +270,10 @@ own_turned_side timed creating k S P side forest alone cpu ec sc p d (Part child
 own_turned_side timed creating k S P side forest alone cpu ec sc p d (Leaf leaf is mine) stirs =
     subst (λ (x : Deed). IsSide (turned k cpu (by_deed k ec sc x stirs)) S P) (sym is) (leaf_side k S P side cpu ec sc leaf stirs)
 own_turned_side timed creating k S P side forest alone cpu ec sc p d (New call target made is creates of) stirs =
-    subst (λ (x : Deed). IsSide (turned k cpu (by_deed k ec sc x stirs)) S P) (sym is) (made_side k S P side (alone creates) cpu ec sc call target made of stirs)
+    subst (λ (x : Deed). IsSide (turned k cpu (by_deed k ec sc x stirs)) S P) (sym is) (made_side k S P side (alone creates) cpu ec sc target made (Answers Success None) of tt stirs)
+own_turned_side timed creating k S P side forest alone cpu ec sc p d (Open target domain is creates) stirs =
+    subst (λ (x : Deed). IsSide (turned k cpu (by_deed k ec sc x stirs)) S P) (sym is)
+    (made_side k S P side (alone creates) cpu ec sc target new.Pd (Becomes (Granting (Some domain))) tt (opens_well P domain) stirs)
 
 pub own_turned_alike : (timed creating : Type 0) (k l : KernelState) (S P : ℕ → Type 0) → Both k l S P → IsForest k.delegations → IsForest l.delegations → (creating → AreMaking k l S P) → (cpu other ec sc : ℕ) → P ec → S (pd_of k ec) → (d e : Deed) → AreOwn timed creating k l S P d e →
     (stirs others : ℕ → Bool) → AreAlike (turned k cpu (by_deed k ec sc d stirs)) (turned l other (by_deed l ec sc e others)) S P
@@ -272,7 +290,11 @@ own_turned_alike timed creating k l S P b forest further making cpu other ec sc 
 own_turned_alike timed creating k l S P b forest further making cpu other ec sc p s d e (News call target made is same creates of) stirs others =
     subst (λ (x : Deed). AreAlike (turned k cpu (by_deed k ec sc x stirs)) (turned l other (by_deed l ec sc e others)) S P) (sym is)
     (subst (λ (x : Deed). AreAlike (turned k cpu (by_deed k ec sc (deeds.Makes call target made) stirs)) (turned l other (by_deed l ec sc x others)) S P) (sym (same ∙ is))
-    (made_alike k l S P b forest further (making creates) cpu other ec sc call target made p stirs others))
+    (made_alike k l S P b forest further (making creates) cpu other ec sc target made (Answers Success None) p stirs others))
+own_turned_alike timed creating k l S P b forest further making cpu other ec sc p s d e (Opens target domain is same creates) stirs others =
+    subst (λ (x : Deed). AreAlike (turned k cpu (by_deed k ec sc x stirs)) (turned l other (by_deed l ec sc e others)) S P) (sym is)
+    (subst (λ (x : Deed). AreAlike (turned k cpu (by_deed k ec sc (deeds.Opens target domain) stirs)) (turned l other (by_deed l ec sc x others)) S P) (sym (same ∙ is))
+    (made_alike k l S P b forest further (making creates) cpu other ec sc target new.Pd (Becomes (Granting (Some domain))) p stirs others))
 
 -- WHERE THE SIDE REVOKES
 
@@ -295,6 +317,9 @@ pair_derived timed creating k l m n S P b making first second third fourth ec p 
     (λ x in_it s. less_was l.delegations twin.id x (subst (λ (f : Delegations). Contains f.list x) (its ∙ ap (λ (y : Deed). branched l.delegations (branch_by l ec y)) also) in_it)) a
 pair_derived timed creating k l m n S P b making first second third fourth ec p s_pd d e (News call target made is same creates of) mine its a =
     rooted_derived k l m n S P b first second third fourth ec target made p s_pd (making creates).alone.objects
+    (mine ∙ ap (λ (y : Deed). branched k.delegations (branch_by k ec y)) is) (its ∙ ap (λ (y : Deed). branched l.delegations (branch_by l ec y)) (same ∙ is)) a
+pair_derived timed creating k l m n S P b making first second third fourth ec p s_pd d e (Opens target domain is same creates) mine its a =
+    rooted_derived k l m n S P b first second third fourth ec target new.Pd p s_pd (making creates).alone.objects
     (mine ∙ ap (λ (y : Deed). branched k.delegations (branch_by k ec y)) is) (its ∙ ap (λ (y : Deed). branched l.delegations (branch_by l ec y)) (same ∙ is)) a
 
 -- and all that is made of them is its own
@@ -320,3 +345,5 @@ own_derives timed creating k m S P forest ec d (Leaf leaf takes mine) is within 
     gone = is ∙ ap (λ (y : Deed). branched k.delegations (branch_by k ec y)) takes
 own_derives timed creating k m S P forest ec d (New call target made is creates of) joins within =
     rooted_derives k m S forest (pd_of k ec) target made (joins ∙ ap (λ (y : Deed). branched k.delegations (branch_by k ec y)) is) within
+own_derives timed creating k m S P forest ec d (Open target domain is creates) joins within =
+    rooted_derives k m S forest (pd_of k ec) target new.Pd (joins ∙ ap (λ (y : Deed). branched k.delegations (branch_by k ec y)) is) within

@@ -7,6 +7,7 @@ use Rattle.nova_range.specs.RangeWords.{meaning_of, word_of}
 use Rattle.nova_range.specs.Ranges.{end_of}
 use Rattle.nova_range.specs.declared.range.Range.{Range}
 use Rattle.nova_range.specs.declared.rights.Rights.{Rights}
+use Rattle.rv_model.specs.Registers.{reg}
 use Rattle.nova_utcb.specs.Messages.{counted_items, delegation_window, item_at, translation_window}
 use Rattle.nova_model.specs.Deeds.{deed, deed_in}
 use Rattle.nova_model.specs.Delegations.{covers, derived, is_held_in, range_of}
@@ -45,7 +46,6 @@ use Rattle.law_turns.specs.Left.{IsFirstLeft, IsGivenOf}
 use Rattle.law_turns.proofs.Leaving.{part_given}
 use Rattle.law_integrity.specs.Rights.{GivesFirst, GivesTo, RepliesWith, TakesOfCaller}
 use Rattle.law_integrity.proofs.Parts.{given_rightful}
-use Rattle.law_turns.specs.Giving.{gives_no_first}
 use Rattle.law_flow.specs.Flow.{Held, IsGivingWithin, IsUnrevoked, held_by, origin_of, unnumbered}
 use Rattle.law_flow.proofs.Busy.{unbusy}
 use Rattle.law_flow.proofs.Holds.{AreNext, ComeAlike, HoldAlike, IsTwin, first_same, held_so, next_same}
@@ -92,14 +92,31 @@ pub record SameItem (k l : KernelState) (S : ℕ → Type 0) (ec : ℕ) (t : Sta
   pub same : delivery l ec t ≡ delivery k ec t
   pub of : AreItems S (delivery k ec t)
 
-pub item_same : (k l : KernelState) (S P : ℕ → Type 0) → Both k l S P → (ec : ℕ) → P ec → S (pd_of k ec) → IsGivingWithin k S ec → (t : State) → is_giving t ≡ true → gives_no_first t ≡ true → SameItem k l S ec t
-item_same k l S P b ec p s within (Granting None) gives works = record {
+-- a first range by what is read of its giver
+abbrev first_by : EcState → ℕ → ℕ → Delivery
+first_by x giver new = record {
+  range_word = reg x.regs 12;
+  second_word = 1;
+  giver = giver;
+  receiver = new;
+  translations = 0;
+  delegations = reg x.regs 12;
+  told = None;
+  items = 1;
+  last = sequel.Opened;
+}
+
+pub item_same : (k l : KernelState) (S P : ℕ → Type 0) → Both k l S P → (ec : ℕ) → P ec → S (pd_of k ec) → IsGivingWithin k S ec → (t : State) → (context k ec).state ≡ t → is_giving t ≡ true → SameItem k l S ec t
+item_same k l S P b ec p s within (Granting None) is gives = record {
   same =
       ap₂ (λ (x : Transfer) (y : EcState). taken_from l ec x.item y.caller) (transfer_same k l S P b ec p s) (context_same k l S P b ec p s)
-      ∙ by_caller (context k ec).caller (served_mine k P ec (λ c m is. b.side.callers ec c m p is)) within.caller;
-  of = of_caller (context k ec).caller within.caller;
+      ∙ by_caller (context k ec).caller (served_mine k P ec (λ c m is. b.side.callers ec c m p is)) its_caller;
+  of = of_caller (context k ec).caller its_caller;
 }
   where
+    its_caller : (c : ℕ) (m : Mark) → (context k ec).caller ≡ Some (c, m) → S (pd_of k c)
+    its_caller c m serves = (within.between (pd_of k c) (pd_of k ec) (TakesOfCaller c m is serves refl refl)).0
+
     by_caller : (o : Option (ℕ × Mark)) → ((c : ℕ) (m : Mark) → o ≡ Some (c, m) → P c) → ((c : ℕ) (m : Mark) → o ≡ Some (c, m) → S (pd_of k c)) →
         taken_from l ec (transfer k ec).item o ≡ taken_from k ec (transfer k ec).item o
     by_caller None mine its = refl
@@ -108,13 +125,16 @@ item_same k l S P b ec p s within (Granting None) gives works = record {
     of_caller : (o : Option (ℕ × Mark)) → ((c : ℕ) (m : Mark) → o ≡ Some (c, m) → S (pd_of k c)) → AreItems S (taken_from k ec (transfer k ec).item o)
     of_caller None its = tt
     of_caller (Some (c, m)) its = (its c m refl, s)
-item_same k l S P b ec p s within Replying gives works = record {
+item_same k l S P b ec p s within Replying is gives = record {
   same =
       ap₂ (λ (x : Transfer) (y : EcState). given_to l ec x.item y.caller) (transfer_same k l S P b ec p s) (context_same k l S P b ec p s)
-      ∙ by_caller (context k ec).caller (served_mine k P ec (λ c m is. b.side.callers ec c m p is)) within.caller;
-  of = of_caller (context k ec).caller within.caller;
+      ∙ by_caller (context k ec).caller (served_mine k P ec (λ c m is. b.side.callers ec c m p is)) its_caller;
+  of = of_caller (context k ec).caller its_caller;
 }
   where
+    its_caller : (c : ℕ) (m : Mark) → (context k ec).caller ≡ Some (c, m) → S (pd_of k c)
+    its_caller c m serves = (within.between (pd_of k ec) (pd_of k c) (RepliesWith c m is serves refl refl)).1
+
     by_caller : (o : Option (ℕ × Mark)) → ((c : ℕ) (m : Mark) → o ≡ Some (c, m) → P c) → ((c : ℕ) (m : Mark) → o ≡ Some (c, m) → S (pd_of k c)) →
         given_to l ec (transfer k ec).item o ≡ given_to k ec (transfer k ec).item o
     by_caller None mine its = refl
@@ -124,8 +144,11 @@ item_same k l S P b ec p s within Replying gives works = record {
     of_caller : (o : Option (ℕ × Mark)) → ((c : ℕ) (m : Mark) → o ≡ Some (c, m) → S (pd_of k c)) → AreItems S (given_to k ec (transfer k ec).item o)
     of_caller None its = tt
     of_caller (Some (c, m)) its = (s, its c m refl)
-item_same k l S P b ec p s within (Granting (Some new)) gives works = absurd (cc)
-item_same k l S P b ec p s within other gives works = absurd (cc)
+item_same k l S P b ec p s within (Granting (Some new)) is gives = record {
+  same = ap₂ (λ (x : EcState) (giver : ℕ). Some (first_by x giver new)) (context_same k l S P b ec p s) (pd_same k l S P b ec p);
+  of = (s, (within.between (pd_of k ec) new (GivesFirst is refl)).1);
+}
+item_same k l S P b ec p s within other is gives = absurd (cc)
 
 -- THE NEXT PART
 
@@ -238,27 +261,26 @@ delivered_same k l S first second alike come v t giver receiver = by_flag (flag 
 -- THE DEED
 
 pub given_same : (k l : KernelState) (S P : ℕ → Type 0) → Both k l S P → IsForest k.delegations → IsForest l.delegations → (ec : ℕ) → P ec → S (pd_of k ec) → IsGivingWithin k S ec → IsUnrevoked l S →
-    is_giving (context k ec).state ≡ true → gives_no_first (context k ec).state ≡ true → unnumbered (deed l ec) ≡ unnumbered (deed k ec)
+    is_giving (context k ec).state ≡ true → unnumbered (deed l ec) ≡ unnumbered (deed k ec)
 unfolding deed
-given_same k l S P b first second ec p s within free gives works =
-    ap (λ (x : EcState). unnumbered (deed_in l ec x.state)) (context_same k l S P b ec p s) ∙ by_state (context k ec).state refl gives works
+given_same k l S P b first second ec p s within free gives =
+    ap (λ (x : EcState). unnumbered (deed_in l ec x.state)) (context_same k l S P b ec p s) ∙ by_state (context k ec).state refl gives
   where
     by_item : (o : Option Delivery) → AreItems S o → unnumbered (delivers l (transfer k ec) o) ≡ unnumbered (delivers k (transfer k ec) o)
     by_item None of = refl
     by_item (Some v) of =
         delivered_same k l S (record { forest = first; unrevoked = within.unrevoked }) (record { forest = second; unrevoked = free }) b.alike.spaces b.alike.origins v (transfer k ec) of.0 of.1
 
-    by_giving : (t : State) → is_giving t ≡ true → gives_no_first t ≡ true →
+    by_giving : (t : State) → (context k ec).state ≡ t → is_giving t ≡ true →
         unnumbered (delivers l (transfer l ec) (delivery l ec t)) ≡ unnumbered (delivers k (transfer k ec) (delivery k ec t))
-    by_giving t some calm =
-        let its = item_same k l S P b ec p s within t some calm in
+    by_giving t is some =
+        let its = item_same k l S P b ec p s within t is some in
         ap₂ (λ (x : Transfer) (o : Option Delivery). unnumbered (delivers l x o)) (transfer_same k l S P b ec p s) its.same ∙ by_item (delivery k ec t) its.of
 
-    by_state : (t : State) → (context k ec).state ≡ t → is_giving t ≡ true → gives_no_first t ≡ true → unnumbered (deed_in l ec t) ≡ unnumbered (deed_in k ec t)
-    by_state (Granting None) is some calm = by_giving (Granting None) some calm
-    by_state Replying is some calm = by_giving Replying some calm
-    by_state (Granting (Some new)) is some calm = absurd (cc)
-    by_state other is some calm = absurd (cc)
+    by_state : (t : State) → (context k ec).state ≡ t → is_giving t ≡ true → unnumbered (deed_in l ec t) ≡ unnumbered (deed_in k ec t)
+    by_state (Granting new) is some = by_giving (Granting new) is some
+    by_state Replying is some = by_giving Replying is some
+    by_state other is some = absurd (cc)
 
 -- such a deed gives a part, skips one or ends an item
 abbrev pub GivesItems : Deed → Type 0
@@ -289,34 +311,29 @@ within_source k child source forest there named fits = by_parent (subst (HasPare
     by_parent : HasParentIn k.delegations.list child (Some source.id) → IsWithin child source
     by_parent h = subst (IsWithin child) (same_id k.delegations.list h.0 source forest.rising (in_from_contains k.delegations.list h.0 h.1) there h.2) h.3
 
-pub part_is : (k : KernelState) (S : ℕ → Type 0) (ec : ℕ) → IsForest k.delegations → S (pd_of k ec) → ((n : ℕ) (mark : Mark) → (context k ec).caller ≡ Some (n, mark) → S (pd_of k n)) →
-    gives_no_first (context k ec).state ≡ true → (child : Derivation) (cursor : ℕ) → deed k ec ≡ deeds.Gives child cursor → IsPart k S child
-part_is k S ec forest s served works child cursor is = by_given (subst (IsAllowed k ec) is (deed_allowed k ec))
+pub part_is : (k : KernelState) (S : ℕ → Type 0) (ec : ℕ) → IsForest k.delegations → ((giver receiver : ℕ) → GivesTo k ec giver receiver → S giver × S receiver) →
+    (child : Derivation) (cursor : ℕ) → deed k ec ≡ deeds.Gives child cursor → IsPart k S child
+part_is k S ec forest between child cursor is = by_given (subst (IsAllowed k ec) is (deed_allowed k ec))
   where
     by_given : IsGivenChild k ec child → IsPart k S child
-    by_given g = by_side (given_rightful k ec child g)
+    by_given g = record {
+      source = g.source;
+      there = in_from_contains k.delegations.list g.source g.there;
+      of = sides.0;
+      to = sides.1;
+      parent = g.parent;
+      within = within_source k child g.source forest (in_from_contains k.delegations.list g.source g.there) g.parent (g.fits forest);
+      fits = g.fits forest;
+    }
       where
-        part : S g.source.pd → S child.pd → IsPart k S child
-        part of to = record {
-          source = g.source;
-          there = in_from_contains k.delegations.list g.source g.there;
-          of = of;
-          to = to;
-          parent = g.parent;
-          within = within_source k child g.source forest (in_from_contains k.delegations.list g.source g.there) g.parent (g.fits forest);
-          fits = g.fits forest;
-        }
-
-        by_side : GivesTo k ec g.source.pd child.pd → IsPart k S child
-        by_side (TakesOfCaller caller mark state serves giver receiver) = part (subst S giver (served caller mark serves)) (subst S receiver s)
-        by_side (RepliesWith caller mark state serves giver receiver) = part (subst S giver s) (subst S receiver (served caller mark serves))
-        by_side (GivesFirst state giver) = absurd (let works_not : gives_no_first (Granting (Some child.pd)) ≡ true = ap gives_no_first (sym state) ∙ works in cc)
+        sides : S g.source.pd × S child.pd
+        sides = between g.source.pd child.pd (given_rightful k ec child g)
 
 -- the sources of both parts are the same but for numbers
 pub sources_same : (k l : KernelState) (S P : ℕ → Type 0) → Both k l S P → IsForest k.delegations → IsForest l.delegations → (ec : ℕ) → P ec → S (pd_of k ec) → IsGivingWithin k S ec →
-    is_giving (context k ec).state ≡ true → gives_no_first (context k ec).state ≡ true → (child twin : Derivation) (cursor at : ℕ) → deed k ec ≡ deeds.Gives child cursor → deed l ec ≡ deeds.Gives twin at →
+    is_giving (context k ec).state ≡ true → (child twin : Derivation) (cursor at : ℕ) → deed k ec ≡ deeds.Gives child cursor → deed l ec ≡ deeds.Gives twin at →
     (part : IsPart k S child) (also : IsPart l S twin) → IsTwin part.source also.source
-sources_same k l S P b first second ec p s inside gives works child twin cursor at is its part also = by_given (part_given k ec cursor child is) (part_given l ec at twin its)
+sources_same k l S P b first second ec p s inside gives child twin cursor at is its part also = by_given (part_given k ec cursor child is) (part_given l ec at twin its)
   where
     one_source : (m : KernelState) (x : Derivation) → IsForest m.delegations → (q : IsPart m S x) (g : IsGivenOf m ec x) → g.source ≡ q.source
     one_source m x forest q g =
@@ -329,7 +346,7 @@ sources_same k l S P b first second ec p s inside gives works child twin cursor 
     by_given g h =
         let item : h.is_with.item ≡ g.is_with.item =
         same_Some h.is_with.item g.is_with.item
-        (sym h.is_with.present ∙ ap (λ (x : EcState). delivery l ec x.state) (context_same k l S P b ec p s) ∙ (item_same k l S P b ec p s inside (context k ec).state gives works).same ∙ g.is_with.present) in
+        (sym h.is_with.present ∙ ap (λ (x : EcState). delivery l ec x.state) (context_same k l S P b ec p s) ∙ (item_same k l S P b ec p s inside (context k ec).state refl gives).same ∙ g.is_with.present) in
         let jobs : h.is_with.job ≡ g.is_with.job = same_ok h.is_with.job g.is_with.job (sym h.is_with.reads ∙ ap job_in item ∙ g.is_with.reads) in
         let job : h.job ≡ g.job =
         h.is_with.on ∙ ap₂ (λ (j : Job) (t : Transfer). record j { cursor = t.cursor }) jobs (transfer_same k l S P b ec p s) ∙ sym g.is_with.on in

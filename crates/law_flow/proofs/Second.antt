@@ -113,7 +113,7 @@ works_second allowed b since (cpu ∷ us) S P U k ts c nothing derived alone t l
         (revokes_second n.state l S P n.twins.alike n.twins.second side) n.works in
         let timed =
         working_both (RevokesNothing n.state (Of S)) (allowed.revokes ≡ true) (allowed.creates ≡ true) n.state l S P p.0 n.twins there its.of n.works (n.within p.0 p.1 n.own)
-        (λ giving. apart_gives allowed.creates b since S P U cpu p.0 p.1 c.apart is giving mine.state (mine.gives giving)) (λ yes. record { alike = n.derived yes; first = n.derives yes; second = c.derives yes }) n.alone in (
+        (λ giving. apart_gives allowed.creates b since S P U cpu p.0 p.1 c.apart is (mine.gives giving)) (λ yes. record { alike = n.derived yes; first = n.derives yes; second = c.derives yes }) n.alone in (
           λ ec sc own. subst (λ (q : ℕ × ℕ). IsAtWork ⊥ (RevokesNothing l (Of S)) (allowed.revokes ≡ true) (allowed.creates ≡ true) l q.0) (same_Some p (ec, sc) (sym is ∙ own)) mine,
           later (own_stands allowed b since S P U cpu p.0 p.1 c is mine) (after n.state n.cpu) n.later
               (λ yes. own_derived n.state l S P n.cpu cpu p.0 p.1 n.twins n.own is timed (n.derived yes)) (λ yes. own_numbers n.state l S P n.cpu cpu p.0 p.1 n.twins n.own is timed (n.alone yes))

@@ -160,8 +160,7 @@ pub call_as : (timed other revoking taking creating making : Type 0) (o : Result
     IsCallAtWork other taking making o
 call_as timed other revoking taking creating making (Ok (asks.SmCtrl sm (act.DownWithin ticks))) f g m h = f h
 call_as timed other revoking taking creating making (Ok (asks.Revoke range own)) f g m h = g h
-call_as timed other revoking taking creating making (Ok (asks.CreatePd target pd None)) f g m h = m h
-call_as timed other revoking taking creating making (Ok (asks.CreatePd target pd (Some first))) f g m h = absurd h
+call_as timed other revoking taking creating making (Ok (asks.CreatePd target pd first)) f g m h = m h
 call_as timed other revoking taking creating making (Ok (asks.CreateEc target pd cpu kind sp event)) f g m h = m h
 call_as timed other revoking taking creating making (Ok (asks.CreateSc target pd whose quantum priority)) f g m h = m h
 call_as timed other revoking taking creating making (Ok (asks.CreatePt target pd handler mtd ip)) f g m h = m h
@@ -171,7 +170,6 @@ call_as timed other revoking taking creating making any f g m h = h
 pub work_as : (timed other giving within revoking taking creating making : Type 0) (k : KernelState) (ec : ℕ) → (timed → other) → (is_giving (context k ec).state ≡ true → giving → within) → (revoking → taking) → (creating → making) →
     IsAtWork timed giving revoking creating k ec → IsAtWork other within taking making k ec
 work_as timed other giving within revoking taking creating making k ec f g h m works = record {
-  state = works.state;
   calls = λ asking. call_as timed other revoking taking creating making (call_of (context k ec).regs) f h m (works.calls asking);
   gives = λ is. g is (works.gives is);
   revokes = λ is. h (works.revokes is);

@@ -6,14 +6,12 @@ use Rattle.nova_objects.specs.declared.object.Object.TheVariants.{Pd}
 use Rattle.nova_model.specs.Boot.{Scenario, boot}
 use Rattle.nova_model.specs.Creation.{object_of}
 use Rattle.nova_model.specs.Runs.{after, run}
-use Rattle.nova_model.specs.Edges.{is_giving}
-use Rattle.nova_model.specs.State.{KernelState, context, pd_of}
+use Rattle.nova_model.specs.State.{KernelState, pd_of}
 use Rattle.nova_model.specs.declared.new_object.NewObject.{NewObject}
 use Rattle.nova_model.specs.declared.times.Due.{Due}
 use Rattle.law_forest.specs.Effects.{Passing, joined}
 use Rattle.law_forest.specs.Turns.{IsPassing}
 use Rattle.law_turns.proofs.Setting.{joined_length}
-use Rattle.law_turns.specs.Giving.{gives_no_first}
 use Rattle.law_turns.proofs.Serving.{actor_of}
 use Rattle.law_isolation.specs.Sound.{IsSound}
 use Rattle.law_isolation.proofs.Runs.{reached_sound, turn_sound}
@@ -85,10 +83,9 @@ own_domains S k cpu ec sc sound own =
 
 pub gives_whole : (s : Scenario) (before : List ℕ) (S P : ℕ → Bool) (T : ℕ → Type 0) (cpu ec sc : ℕ) →
     IsPartitioned (run (boot s) before) (Of (domains (run (boot s) before) S)) T (Of (existing (run (boot s) before) P)) → own_turn S (run (boot s) before) cpu ≡ Some (ec, sc) →
-    is_giving (context (run (boot s) before) ec).state ≡ true → gives_no_first (context (run (boot s) before) ec).state ≡ true → RevokesNothing (run (boot s) before) (Of S) →
-    IsGivingWithin (run (boot s) before) (Of S) ec
-gives_whole s before S P T cpu ec sc c own gives works none = record {
-  caller = λ n mark is. of_domains k S (pd_of k n) (within.caller n mark is);
+    RevokesNothing (run (boot s) before) (Of S) → IsGivingWithin (run (boot s) before) (Of S) ec
+gives_whole s before S P T cpu ec sc c own none = record {
+  between = λ giver receiver gives. let sides = within.between giver receiver gives in (of_domains k S giver sides.0, of_domains k S receiver sides.1);
   unrevoked = record {
     own = none;
     lines = λ n range its d a state there mine above same. within.unrevoked.lines n range its d a state there (in_domains k S d.pd mine ((reached_homed s before).holders d there)) above same;
@@ -100,5 +97,5 @@ gives_whole s before S P T cpu ec sc c own gives works none = record {
 
     within : IsGivingWithin (run (boot s) before) (Of (domains (run (boot s) before) S)) ec
     within =
-        within_partition (domains k S) (existing k P) T k cpu ec sc (reached_sound s before) c (own_domains S k cpu ec sc (reached_sound s before) own) gives works
+        within_partition (domains k S) (existing k P) T k cpu ec sc (reached_sound s before) c (own_domains S k cpu ec sc (reached_sound s before) own)
         (λ n range its state mine. none n range its state (of_domains k S (pd_of k n) mine))

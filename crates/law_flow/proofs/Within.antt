@@ -9,17 +9,14 @@ use Rattle.nova_model.specs.Deeds.{deed}
 use Rattle.nova_model.specs.Edges.{is_giving}
 use Rattle.nova_model.specs.State.{KernelState, context, context_at, context_in, entry, pd_in, pd_of}
 use Rattle.nova_model.specs.declared.context.EcState.{EcState}
-use Rattle.nova_model.specs.declared.context.Mark.{Mark}
-use Rattle.nova_model.specs.declared.context.State.{State}
-use Rattle.nova_model.specs.declared.context.State.TheVariants.{Granting, Replying, Revoking}
+use Rattle.nova_model.specs.declared.context.State.TheVariants.{Revoking}
 use Rattle.law_turns.proofs.Serving.{actor_of}
 use Rattle.law_turns.proofs.TablesKept.{context_is}
 use Rattle.law_isolation.specs.Sound.{IsSound}
 use Rattle.law_origins.proofs.Actors.{is_able}
 use Rattle.law_integrity.specs.Confined.{IsIdle, IsMember, Of}
-use Rattle.law_integrity.specs.Rights.{RepliesWith, TakesOfCaller, Again, AtCall, IsAsking}
+use Rattle.law_integrity.specs.Rights.{Again, AtCall, GivesTo, IsAsking}
 use Rattle.law_integrity.proofs.Confining.{acting_one, gives_in, member_pd}
-use Rattle.law_turns.specs.Giving.{gives_no_first}
 use Rattle.law_turns.specs.Revoking.{is_revoking}
 use Rattle.law_flow.specs.Flow.{AreAlike, DerivesWithin, IsAtWork, IsGivingWithin, IsPartitioned, IsSide, RevokesNothing, own_turn, IsCallAtWork}
 use Rattle.law_flow.proofs.Pairs.{IsOwnDeed, own_one}
@@ -42,30 +39,20 @@ own_member S k cpu ec sc sound own = by_object (slice_get k.objects ec) refl kin
     by_object (Some Sm) is h s = absurd (cc)
     by_object None is h s = absurd (cc)
 
--- and so is whom it takes items of or gives them to
-pub caller_within : (S P : ℕ → Bool) (T : ℕ → Type 0) (k : KernelState) (cpu ec sc : ℕ) → IsSound k → IsPartitioned k (Of S) T (Of P) → own_turn S k cpu ≡ Some (ec, sc) →
-    is_giving (context k ec).state ≡ true → gives_no_first (context k ec).state ≡ true → (n : ℕ) (mark : Mark) → (context k ec).caller ≡ Some (n, mark) → S (pd_of k n) ≡ true
-caller_within S P T k cpu ec sc sound c own gives works n mark serves = by_state (context k ec).state refl gives works
-  where
-    mine : IsMember k (Of S) ec
-    mine = own_member S k cpu ec sc sound own
-
-    by_state : (t : State) → (context k ec).state ≡ t → is_giving t ≡ true → gives_no_first t ≡ true → S (pd_of k n) ≡ true
-    by_state (Granting None) is some calm =
-        (gives_in k (Of S) ec (pd_of k n) (pd_of k ec) sound c.apart.separate.first (acting_one k cpu ec (own_acts S k cpu ec sc (own_is S k cpu ec sc own))) mine (TakesOfCaller n mark is serves refl refl)).0
-    by_state Replying is some calm =
-        (gives_in k (Of S) ec (pd_of k ec) (pd_of k n) sound c.apart.separate.first (acting_one k cpu ec (own_acts S k cpu ec sc (own_is S k cpu ec sc own))) mine (RepliesWith n mark is serves refl refl)).1
-    by_state (Granting (Some new)) is some calm = absurd (cc)
-    by_state other is some calm = absurd (cc)
+-- and so are the domains between which it gives
+pub gives_between : (S P : ℕ → Bool) (T : ℕ → Type 0) (k : KernelState) (cpu ec sc : ℕ) → IsSound k → IsPartitioned k (Of S) T (Of P) → own_turn S k cpu ≡ Some (ec, sc) → (giver receiver : ℕ) → GivesTo k ec giver receiver →
+    Of S giver × Of S receiver
+gives_between S P T k cpu ec sc sound c own giver receiver gives =
+    gives_in k (Of S) ec giver receiver sound c.apart.separate.first (acting_one k cpu ec (own_acts S k cpu ec sc (own_is S k cpu ec sc own))) (own_member S k cpu ec sc sound own) gives
 
 there_by : (o : Option EcState) (range : Range) (own : Bool) → (context_in o).state ≡ Revoking range own → (x : EcState) × (o ≡ Some x) × (x.state ≡ Revoking range own)
 there_by None range own is = absurd (cc)
 there_by (Some x) range own is = (x, refl, is)
 
 pub within_partition : (S P : ℕ → Bool) (T : ℕ → Type 0) (k : KernelState) (cpu ec sc : ℕ) → IsSound k → IsPartitioned k (Of S) T (Of P) → own_turn S k cpu ≡ Some (ec, sc) →
-    is_giving (context k ec).state ≡ true → gives_no_first (context k ec).state ≡ true → RevokesNothing k (Of S) → IsGivingWithin k (Of S) ec
-within_partition S P T k cpu ec sc sound c own gives works none = record {
-  caller = caller_within S P T k cpu ec sc sound c own gives works;
+    RevokesNothing k (Of S) → IsGivingWithin k (Of S) ec
+within_partition S P T k cpu ec sc sound c own none = record {
+  between = gives_between S P T k cpu ec sc sound c own;
   unrevoked = record {
     own = none;
     lines = λ n range its d a state there s above same.
@@ -103,7 +90,7 @@ pub own_at : (timed revoking creating : Type 0) (S P : ℕ → Bool) (T : ℕ �
 own_at timed revoking creating S P T k cpu ec sc sound c own works within =
     let its = own_is S k cpu ec sc own in
     own_one timed (RevokesNothing k (Of S)) revoking creating k (Of S) (Of P) (record { side = c.side; alike = alike_itself k S P; first = sound.kept.edges; second = sound.kept.edges }) sound.forest ec
-    (own_there S k (Of P) cpu ec sc sound c.side its) its.of works (λ gives. caller_within S P T k cpu ec sc sound c own gives works.state) within
+    (own_there S k (Of P) cpu ec sc sound c.side its) its.of works (gives_between S P T k cpu ec sc sound c own) within
 
 -- THE SAME TURN
 
@@ -111,7 +98,6 @@ own_at timed revoking creating S P T k cpu ec sc sound c own works within =
 pub works_too : (timed giving further revoking creating : Type 0) (k l : KernelState) (S P : ℕ → Type 0) → Both k l S P → (ec : ℕ) → P ec → S (pd_of k ec) → (giving → further) →
     IsAtWork timed giving revoking creating k ec → IsAtWork timed further revoking creating l ec
 works_too timed giving further revoking creating k l S P b ec p s f works = record {
-  state = ap gives_no_first state ∙ works.state;
   calls = λ asks_. subst (λ (x : EcState). IsCallAtWork timed revoking creating (call_of x.regs)) (sym (context_same k l S P b ec p s)) (works.calls (by_asks asks_));
   gives = λ is. f (works.gives (sym (ap is_giving state) ∙ is));
   revokes = λ is. works.revokes (sym (ap is_revoking state) ∙ is);

@@ -29,7 +29,6 @@ use Rattle.nova_model.specs.declared.context.State.TheVariants.{Revoking}
 use Rattle.nova_model.specs.declared.deed.Deed.TheVariants.{Gives}
 use Rattle.law_integrity.specs.Confined.{Of}
 use Rattle.law_flow.specs.Examples.{first_domains, given_page, two_homes}
-use Rattle.law_turns.specs.Giving.{gives_no_first}
 use Rattle.law_turns.specs.Revoking.{is_revoking}
 use Rattle.law_flow.specs.Flow.{AreAtWorkTimeless, IsAtWork, IsCallAtWork, OthersMakeNothing, RevokesNothing, fixed, own_turn}
 use Rattle.law_flow.specs.Processors.{AreOn, StayOn}
@@ -38,8 +37,7 @@ use Rattle.law_flow.specs.Processors.{AreOn, StayOn}
 
 -- of one that creates where the first is true
 abbrev is_call_at_work : Bool → Result Call Status → Bool
-is_call_at_work creates (Ok (asks.CreatePd target pd None)) = creates
-is_call_at_work creates (Ok (asks.CreatePd target pd (Some first))) = false
+is_call_at_work creates (Ok (asks.CreatePd target pd first)) = creates
 is_call_at_work creates (Ok (asks.CreateEc target pd cpu kind sp event)) = creates
 is_call_at_work creates (Ok (asks.CreateSc target pd whose quantum priority)) = creates
 is_call_at_work creates (Ok (asks.CreatePt target pd handler mtd ip)) = creates
@@ -48,8 +46,7 @@ is_call_at_work creates (Ok (asks.SmCtrl sm (act.DownWithin ticks))) = false
 is_call_at_work creates other = true
 
 call_so : (creates : Bool) (o : Result Call Status) → is_call_at_work creates o ≡ true → IsCallAtWork ⊥ (true ≡ true) (creates ≡ true) o
-call_so creates (Ok (asks.CreatePd target pd None)) h = h
-call_so creates (Ok (asks.CreatePd target pd (Some first))) h = absurd (cc)
+call_so creates (Ok (asks.CreatePd target pd first)) h = h
 call_so creates (Ok (asks.CreateEc target pd cpu kind sp event)) h = h
 call_so creates (Ok (asks.CreateSc target pd whose quantum priority)) h = h
 call_so creates (Ok (asks.CreatePt target pd handler mtd ip)) h = h
@@ -81,7 +78,7 @@ none_revokes k S all n range own is s = by_entry (context_at k n) (calm_at k.con
 abbrev is_work : Bool → KernelState → Option (ℕ × ℕ) → Bool
 is_work creates k None = true
 is_work creates k (Some p) =
-    gives_no_first (context k p.0).state && (is_call_at_work creates (call_of (context k p.0).regs) && (not (is_giving (context k p.0).state) || list_all is_calm k.contexts))
+    is_call_at_work creates (call_of (context k p.0).regs) && (not (is_giving (context k p.0).state) || list_all is_calm k.contexts)
 
 abbrev pub are_work : Bool → (ℕ → Bool) → KernelState → List ℕ → Bool
 are_work creates S k [] = true
@@ -94,13 +91,11 @@ then_so false u h is = absurd (cc)
 work_so : (creates : Bool) (S : ℕ → Bool) (k : KernelState) (o : Option (ℕ × ℕ)) → is_work creates k o ≡ true → (ec sc : ℕ) → o ≡ Some (ec, sc) → IsAtWork ⊥ (RevokesNothing k (Of S)) (true ≡ true) (creates ≡ true) k ec
 work_so creates S k None h ec sc is = absurd (cc)
 work_so creates S k (Some p) h ec sc is =
-    let at_work = and_parts (gives_no_first (context k p.0).state) (is_call_at_work creates (call_of (context k p.0).regs) && (not (is_giving (context k p.0).state) || list_all is_calm k.contexts)) h in
-    let rest = and_parts (is_call_at_work creates (call_of (context k p.0).regs)) (not (is_giving (context k p.0).state) || list_all is_calm k.contexts) at_work.1 in
+    let both = and_parts (is_call_at_work creates (call_of (context k p.0).regs)) (not (is_giving (context k p.0).state) || list_all is_calm k.contexts) h in
     subst (IsAtWork ⊥ (RevokesNothing k (Of S)) (true ≡ true) (creates ≡ true) k) (ap (λ (q : ℕ × ℕ). q.0) (same_Some {A = ℕ × ℕ} p (ec, sc) is))
     (record {
-      state = at_work.0;
-      calls = λ asking. call_so creates (call_of (context k p.0).regs) rest.0;
-      gives = λ gives. none_revokes k (Of S) (then_so (is_giving (context k p.0).state) (list_all is_calm k.contexts) rest.1 gives);
+      calls = λ asking. call_so creates (call_of (context k p.0).regs) both.0;
+      gives = λ gives. none_revokes k (Of S) (then_so (is_giving (context k p.0).state) (list_all is_calm k.contexts) both.1 gives);
       revokes = λ revokes. refl;
     })
 

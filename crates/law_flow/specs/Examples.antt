@@ -41,7 +41,8 @@ abbrev pub given_page : Derivation
 given_page = record { id = 20; pd = 9; kind = Mem; base = 0; order = 0; rights = record { 0 = 3 }; target = 1; parent = Some 5 }
 
 -- On two processors, with 2 pages, the root makes a protection domain, 3, with a thread on processor 1, 4, and a scheduling context, 5, and revokes its
--- capabilities to the three, all in 22 turns. Then nobody but the root holds anything. It makes a semaphore, 6, and a local thread, 7.
+-- capabilities to the three, all in 22 turns. Then nobody but the root holds anything. It makes a protection domain, 6, with a page as first range,
+-- and a local thread, 7.
 abbrev pub lone_maker : Scenario
 lone_maker = record {
   cpus = 2;
@@ -49,12 +50,13 @@ lone_maker = record {
   consoles = 0;
   root = record { pc = 0; sp = 0; priority = 1; quantum = 100 };
   images =
-      image 0 (2099347 ∷ 33555731 ∷ 115 ∷ 3147923 ∷ 34604307 ∷ 33555859 ∷ 269485587 ∷ 115 ∷ 4196499 ∷ 35652883 ∷ 34604563 ∷ 269485715 ∷ 115 ∷ 7342227 ∷ 132407 ∷ 271910163 ∷ 1050003 ∷ 115 ∷ 6293651 ∷ 33555731 ∷ 1427 ∷ 115 ∷ 3147923 ∷ 34604307 ∷ 1555 ∷ 115 ∷ [])
+      image 0 (2099347 ∷ 33555731 ∷ 115 ∷ 3147923 ∷ 34604307 ∷ 33555859 ∷ 269485587 ∷ 115 ∷ 4196499 ∷ 35652883 ∷ 34604563 ∷ 269485715 ∷ 115 ∷ 7342227 ∷ 132407 ∷ 271910163 ∷ 1050003 ∷ 115 ∷ 2099347 ∷ 33555731 ∷ 1427 ∷ 13633043 ∷ 115 ∷ 3147923 ∷ 34604307 ∷ 1555 ∷ 115 ∷ [])
       ∷ [];
   sources = [];
 }
 
--- the root's side, with the numbers of no object; the other, with a domain, an execution context and a scheduling context; and turns in which the root makes two objects, and the other's thread begins
+-- the root's side, with the numbers of no object; the other, with a domain, an execution context and a scheduling context; turns in which the root makes two objects, and the other's thread begins;
+-- and what it gives first
 abbrev pub maker_domains : ℕ → Bool
 maker_domains n = (n == 0) || nat_le 6 n
 
@@ -65,4 +67,7 @@ abbrev pub made_domains : ℕ → Bool
 made_domains n = n == 3
 
 abbrev pub maker_turns : List ℕ
-maker_turns = 0 ∷ 0 ∷ 0 ∷ 1 ∷ 0 ∷ 0 ∷ 0 ∷ 0 ∷ 1 ∷ 0 ∷ []
+maker_turns = 0 ∷ 0 ∷ 0 ∷ 1 ∷ 0 ∷ 0 ∷ 0 ∷ 0 ∷ 0 ∷ 0 ∷ 1 ∷ 0 ∷ 0 ∷ []
+
+abbrev pub first_page : Derivation
+first_page = record { id = 8; pd = 6; kind = Mem; base = 0; order = 0; rights = record { 0 = 3 }; target = 0; parent = Some 0 }

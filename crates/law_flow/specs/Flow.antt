@@ -7,9 +7,9 @@ use Rattle.nova_calls.specs.declared.call.Call.{Call}
 use Rattle.nova_calls.specs.declared.call.Call.TheVariants.{CreatePd, CreateEc, CreateSc, CreatePt, CreateSm, Revoke, SmCtrl}
 use Rattle.nova_calls.specs.declared.call.SmAction.TheVariants.{DownWithin}
 use Rattle.nova_guest.specs.declared.page.Page.{Page}
-use Rattle.nova_objects.specs.declared.object.Object.{Object}
-use Rattle.nova_objects.specs.declared.object.Object.TheVariants.{Ec, Pd, Pt, Sc, Sm}
+use Rattle.nova_objects.specs.declared.object.Object.TheVariants.{Ec, Pt, Sc, Sm}
 use Rattle.nova_objects.specs.declared.object.EcKind.{EcKind}
+use Rattle.nova_objects.specs.ObjectTables.{is_domain}
 use Rattle.nova_range.specs.Rights.{write_right}
 use Rattle.nova_range.specs.declared.range.Kind.{Kind}
 use Rattle.nova_range.specs.declared.range.Kind.TheVariants.{Obj}
@@ -36,10 +36,9 @@ use Rattle.nova_model.specs.declared.deed.Deed.{Deed}
 use Rattle.nova_model.specs.declared.deed.Deed.TheVariants.{Gives, Removes}
 use Rattle.nova_model.specs.declared.log.LogByte.{LogByte}
 use Rattle.nova_model.specs.declared.times.AlarmState.{AlarmState}
-use Rattle.law_turns.specs.Giving.{gives_no_first}
 use Rattle.law_turns.specs.Revoking.{is_revoking}
 use Rattle.law_integrity.specs.Confined.{AreSetsApart, HoldsAny, IsOwned, Of, Reach}
-use Rattle.law_integrity.specs.Rights.{IsAsking}
+use Rattle.law_integrity.specs.Rights.{GivesTo, IsAsking}
 
 -- THE SIDE'S PART
 
@@ -109,10 +108,9 @@ pub record AreAlike (k l : KernelState) (S P : ℕ → Type 0) : Type 0 where
 
 -- A SIDE AT WORK
 
--- Of a down with a deadline the first is asked, of a revoke the second, and of a call that makes an object the third. None makes a protection domain with a first range, which is given by items.
+-- of a down with a deadline the first is asked, of a revoke the second, and of a call that makes an object the third
 abbrev pub IsCallAtWork : Type 0 → Type 0 → Type 0 → Result Call Status → Type 0
-IsCallAtWork timed revoking creating (Ok (CreatePd target pd None)) = creating
-IsCallAtWork timed revoking creating (Ok (CreatePd target pd (Some first))) = ⊥
+IsCallAtWork timed revoking creating (Ok (CreatePd target pd first)) = creating
 IsCallAtWork timed revoking creating (Ok (CreateEc target pd cpu kind sp event)) = creating
 IsCallAtWork timed revoking creating (Ok (CreateSc target pd whose quantum priority)) = creating
 IsCallAtWork timed revoking creating (Ok (CreatePt target pd handler mtd ip)) = creating
@@ -121,9 +119,8 @@ IsCallAtWork timed revoking creating (Ok (Revoke range own)) = revoking
 IsCallAtWork timed revoking creating (Ok (SmCtrl sm (DownWithin ticks))) = timed
 IsCallAtWork timed revoking creating other = Unit {0}
 
--- Its turn gives no first range, and if it makes a hypercall, this is such a one. Of one that gives items, and of one that revokes, something else is asked, too.
+-- If it makes a hypercall in its turn, this is such a one. Of one that gives items, or a first range, and of one that revokes, something else is asked, too.
 pub record IsAtWork (timed giving revoking creating : Type 0) (k : KernelState) (ec : ℕ) : Type 0 where
-  pub state : gives_no_first (context k ec).state ≡ true
   pub calls : IsAsking k ec → IsCallAtWork timed revoking creating (call_of (context k ec).regs)
   pub gives : is_giving (context k ec).state ≡ true → giving
   pub revokes : is_revoking (context k ec).state ≡ true → revoking
@@ -141,9 +138,9 @@ pub record IsUnrevoked (k : KernelState) (S : ℕ → Type 0) : Type 0 where
   pub lines : (n : ℕ) (range : Range) (own : Bool) (d ancestor : Derivation) → (context k n).state ≡ Revoking range own → Contains k.delegations.list d → S d.pd →
       Contains (line k.delegations.list d) ancestor → ancestor.pd ≡ pd_of k n → ⊥
 
--- Items are given within the side, where no revoke is in the way: the caller of the one who gives, to or from whom they are given, is of a domain of the side's, too.
+-- Items, and the first range of a protection domain, are given within the side, where no revoke is in the way: from one of its domains to one of them.
 pub record IsGivingWithin (k : KernelState) (S : ℕ → Type 0) (ec : ℕ) : Type 0 where
-  pub caller : (n : ℕ) (mark : Mark) → (context k ec).caller ≡ Some (n, mark) → S (pd_of k n)
+  pub between : (giver receiver : ℕ) → GivesTo k ec giver receiver → S giver × S receiver
   pub unrevoked : IsUnrevoked k S
 
 -- in both states
@@ -192,10 +189,6 @@ pub record AreCreatingAlone (k l : KernelState) (S P : ℕ → Type 0) : Type 0 
   pub cpus : l.cpus ≡ k.cpus
 
 -- of these numbers those of protection domains that are there, and those of objects that are
-abbrev pub is_domain : Option Object → Bool
-is_domain (Some Pd) = true
-is_domain other = false
-
 abbrev pub domains : KernelState → (ℕ → Bool) → ℕ → Bool
 domains k S n = S n && is_domain (slice_get k.objects n)
 

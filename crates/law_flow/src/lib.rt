@@ -9,12 +9,10 @@ ghost use Rattle.nova_model.specs.Boot.{Scenario, boot};
 ghost use Rattle.nova_model.specs.Deeds.{deed};
 ghost use Rattle.nova_model.specs.Runs.{after, run};
 ghost use Rattle.nova_model.specs.State.{KernelState, context};
-ghost use Rattle.nova_calls.specs.declared.numbers.TheConstants.{CREATE_SM};
-ghost use Rattle.nova_model.specs.declared.deed.Deed.TheVariants.{Gives, Makes};
-ghost use Rattle.nova_model.specs.declared.new_object.NewObject.TheVariants.{Sm};
+ghost use Rattle.nova_model.specs.declared.deed.Deed.TheVariants.{Gives, Opens};
 ghost use Rattle.law_isolation.specs.Sound.{IsSound};
 ghost use Rattle.law_integrity.specs.Confined.{Of};
-ghost use Rattle.law_flow.specs.Examples.{first_domains, first_objects, first_processors, given_page, lone_maker, made_domains, maker_domains, maker_objects, maker_turns, other_domains, two_homes};
+ghost use Rattle.law_flow.specs.Examples.{first_domains, first_objects, first_page, first_processors, given_page, lone_maker, made_domains, maker_domains, maker_objects, maker_turns, other_domains, two_homes};
 ghost use Rattle.law_flow.specs.Flow.{AreAlike, AreAlikeAlong, AreAtWork, AreAtWorkTimeless, AreCreatingAlone, AreDerivedAlike, AreGivingWithin, AreLeftAlone, AreRevokingWithin, DerivesWithin, HasSameClock, IsAtWork, IsCreatingAlone, IsGivingWithin, IsLeftAlone, IsPartitioned, IsSide, IsTimeless, OthersMakeNothing, Allowed, domains, existing, fixed, own_turn, schedule, unnumbered};
 ghost use Rattle.law_turns.specs.Revoking.{is_revoking};
 ghost use Rattle.law_flow.specs.Processors.{AreAlikeAtHome, AreAtHome, AreTimed, IsDivided, StayOn};
@@ -22,12 +20,12 @@ ghost use Rattle.law_flow.specs.Processors.{AreAlikeAtHome, AreAtHome, AreTimed,
 /// Take two sound states in which a side's part is the same, and a turn of the same execution context of the side in
 /// both, paid by the same scheduling context. It does the same in both, but for numbers of ranges, and leaves states in
 /// which the side's part is the same again, whatever all the rest is: other objects, delegations, registers, states,
-/// queues, budgets, memory and clocks. Where it asks for a down with a deadline, the clock of its processor is the same in
-/// both. Where it gives items, it does so within the side, and in neither state a revoke is in the way. Where it revokes,
-/// in neither state anything that others hold was made of what it holds, and its ranges were made of each other alike and
-/// in one order: a revoke takes the newest first, by their numbers. They stay so. Where it creates, both states have as
-/// many objects and processors, and all numbers that no object has yet are the side's, and so is what schedules its
-/// execution contexts: they stay so, too. It makes no protection domain with a first range.
+/// queues, budgets, memory and clocks. Where it asks for a down with a deadline, the clock of its processor is the same
+/// in both. Where it gives items or a first range, it does so within the side, and in neither state a revoke is in the
+/// way. Where it revokes, in neither state anything that others hold was made of what it holds, and its ranges were
+/// made of each other alike and in one order: a revoke takes the newest first, by their numbers. They stay so. Where it
+/// creates, both states have as many objects and processors, and all numbers that no object has yet are the side's, and
+/// so is what schedules its execution contexts: they stay so, too.
 pub fn step_consistency()
     ensures decides { (k l : KernelState) (S P : ℕ → Bool) (cpu ec sc : ℕ) → IsSound k → IsSound l
         → IsSide k (Of S) (Of P) → AreAlike k l (Of S) (Of P)
@@ -203,8 +201,8 @@ pub fn a_run_comes_to_the_premises()
 
 /// A run of 22 turns from a boot state meets the premises of noninterference of a side that creates. A root makes a protection domain with a thread on
 /// another processor, and revokes its capabilities to them. Then the root is partitioned off, creates alone, without alarms and deadlines; the
-/// processors are divided; and nothing that others hold was made of what it holds. In the 10 turns that follow it is at work, and makes a semaphore and a
-/// thread on its processor; between them the other's thread begins, and dies. Nobody else makes an object.
+/// processors are divided; and nothing that others hold was made of what it holds. In the 13 turns that follow it is at work, and makes a protection
+/// domain, with a page as first range, and a thread on its processor; between them the other's thread begins, and dies. Nobody else makes an object.
 pub fn a_run_comes_to_a_side_that_creates()
     ensures partitioned { IsPartitioned (run (boot lone_maker) (replicate 22 0)) (Of (domains (run (boot lone_maker) (replicate 22 0)) maker_domains)) (Of made_domains) (Of (existing (run (boot lone_maker) (replicate 22 0)) maker_objects)) }
     ensures timeless { IsTimeless (run (boot lone_maker) (replicate 22 0)) (Of maker_objects) }
@@ -214,6 +212,7 @@ pub fn a_run_comes_to_a_side_that_creates()
     ensures nothing { OthersMakeNothing maker_domains (run (boot lone_maker) (replicate 22 0)) maker_turns }
     ensures stays { StayOn maker_domains first_processors (run (boot lone_maker) (replicate 22 0)) maker_turns }
     ensures works { AreAtWorkTimeless (record { revokes = true; creates = true }) maker_domains (run (boot lone_maker) (replicate 22 0)) maker_turns }
-    ensures makes { deed (run (boot lone_maker) (replicate 25 0)) 1 ≡ Makes CREATE_SM 32 (Sm 33) }
+    ensures makes { deed (run (boot lone_maker) (replicate 26 0)) 1 ≡ Opens 32 6 }
+    ensures gives { deed (run (boot lone_maker) (replicate 27 0)) 1 ≡ Gives first_page 2 }
     ensures more { length (run (run (boot lone_maker) (replicate 22 0)) maker_turns).objects ≡ 8 }
 {}

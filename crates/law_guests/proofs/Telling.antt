@@ -63,7 +63,7 @@ use Rattle.law_flow.proofs.Doing.{frames_same}
 use Rattle.law_flow.proofs.Giving.{child_leads}
 use Rattle.law_flow.proofs.Guarding.{own_from}
 use Rattle.law_flow.proofs.Leaving.{others_leave}
-use Rattle.law_flow.proofs.Pairs.{Alone, IsOwnDeed, Leaf, New, Part, first_own}
+use Rattle.law_flow.proofs.Pairs.{Alone, IsOwnDeed, Leaf, New, Open, Part, first_own}
 use Rattle.law_flow.proofs.Parts.{IsPart}
 use Rattle.law_flow.proofs.Seeing.{Both, address_same, frame_same, instruction_same, message_same}
 use Rattle.law_flow.proofs.Turns.{AreTwins, alike_flipped, both, decided, own_acts, own_is, own_of, own_there}
@@ -315,6 +315,7 @@ own_others_same timed creating k l S P b forest ec g p s domain covers d (Part c
 own_others_same timed creating k l S P b forest ec g p s domain covers d (Leaf leaf is mine) =
     ap (others_input l ec g) is ∙ ap (λ (n : ℕ). only_if (is_memory_of n leaf) (input_as.Taken leaf.base leaf.order)) domain ∙ sym (ap (others_input k ec g) is)
 own_others_same timed creating k l S P b forest ec g p s domain covers d (New call target made is creates of) = ap (others_input l ec g) is ∙ sym (ap (others_input k ec g) is)
+own_others_same timed creating k l S P b forest ec g p s domain covers d (Open target domain_ is creates) = ap (others_input l ec g) is ∙ sym (ap (others_input k ec g) is)
 
 -- numbers of ranges don't matter
 numberless : (k : KernelState) (ec g : ℕ) (d : Deed) → input_of k ec g (unnumbered d) ≡ input_of k ec g d

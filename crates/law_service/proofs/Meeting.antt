@@ -31,11 +31,11 @@ use Rattle.law_isolation.proofs.Runs.{reached_sound}
 use Rattle.law_origins.specs.Giving.{Acts}
 use Rattle.law_integrity.specs.Confined.{Of}
 use Rattle.law_integrity.specs.Rights.{Again, AtCall, IsAsking}
-use Rattle.law_turns.specs.Giving.{gives_no_first}
 use Rattle.law_turns.specs.Revoking.{is_revoking}
 use Rattle.law_flow.specs.Flow.{AreAtWorkTimeless, AreRevokingWithin, GivesWithin, IsAtWork, IsSide, RevokesNothing, own_turn, fixed}
 use Rattle.law_flow.proofs.Deriving.{revoking_itself, within_by}
-use Rattle.law_flow.proofs.Looking.{AllAt, IsCalm, at_all, calm_edge, calm_wait, entry_at, led, looked_up, no}
+use Rattle.law_integrity.proofs.Meeting.{IsCalm}
+use Rattle.law_flow.proofs.Looking.{AllAt, at_all, calm_edge, calm_wait, entry_at, led, looked_up, no}
 use Rattle.law_turns.specs.Links.{caller_at as caller_of, state_at as state_of}
 use Rattle.law_service.specs.Examples.{served_tenants, tenant_domain, tenant_objects}
 use Rattle.law_service.specs.Service.{AreAdmitted, ByComputing, ByGift, Enters, Entry, IsWalled, Own, Return, computes, course, entry_in, returned}
@@ -214,10 +214,9 @@ revoking = revoking_itself first (Of tenant_domain) (reached_sound served_tenant
 
 -- AT WORK
 
-pub works_as : (k : KernelState) (s : State) → (context k 10).state ≡ s → gives_no_first s ≡ true → is_giving s ≡ false → is_revoking s ≡ false → ((handler : ℕ) → s ≡ Helping handler → ⊥) → is_thread k 10 ≡ false →
+pub works_as : (k : KernelState) (s : State) → (context k 10).state ≡ s → is_giving s ≡ false → is_revoking s ≡ false → ((handler : ℕ) → s ≡ Helping handler → ⊥) → is_thread k 10 ≡ false →
     IsAtWork ⊥ (RevokesNothing k (Of tenant_domain)) (false ≡ true) (false ≡ true) k 10
-works_as k s is working calm unrevoking never none = record {
-  state = ap gives_no_first is ∙ working;
+works_as k s is calm unrevoking never none = record {
   calls = λ asks. absurd (by_asks asks);
   gives = λ h. absurd (let both : false ≡ true = sym (ap is_giving is ∙ calm) ∙ h in cc);
   revokes = λ h. sym (ap is_revoking is ∙ unrevoking) ∙ h;
@@ -228,10 +227,10 @@ works_as k s is working calm unrevoking never none = record {
     by_asks (AtCall c) = let both : false ≡ true = sym none ∙ c.thread in cc
 
 pub first_works : IsAtWork ⊥ (RevokesNothing first (Of tenant_domain)) (false ≡ true) (false ≡ true) first 10
-first_works = works_as first Fresh fresh_state refl refl refl (λ handler is. cc) no_thread
+first_works = works_as first Fresh fresh_state refl refl (λ handler is. cc) no_thread
 
 pub second_works : IsAtWork ⊥ (RevokesNothing second (Of tenant_domain)) (false ≡ true) (false ≡ true) second 10
-second_works = works_as second (Exiting 0 0 0) exit_state refl refl refl (λ handler is. cc) still_no_thread
+second_works = works_as second (Exiting 0 0 0) exit_state refl refl (λ handler is. cc) still_no_thread
 
 pub own_works : (k : KernelState) → own_turn tenant_domain k 0 ≡ Some (10, 12) → IsAtWork ⊥ (RevokesNothing k (Of tenant_domain)) (false ≡ true) (false ≡ true) k 10 → (ec sc : ℕ) → own_turn tenant_domain k 0 ≡ Some (ec, sc) → IsAtWork ⊥ (RevokesNothing k (Of tenant_domain)) (false ≡ true) (false ≡ true) k ec
 own_works k own works ec sc is =

@@ -239,8 +239,8 @@ revoking = revoking_itself at_0 (Of tenant_domain) (reached_sound paged_tenants 
 
 pub works : AreAtWorkTimeless (fixed false) tenant_domain at_0 (replicate 14 0)
 works = (
-  own_works at_0 own_0 (works_as at_0 Fresh fresh_state refl refl refl (λ handler is. cc) no_thread),
-  (own_works at_1 own_1 (works_as at_1 (Exiting 0 0 0) exit_state refl refl refl (λ handler is. cc) still_no_thread), (none_works at_2 0 own_2, (none_works at_3 0 own_3, (none_works at_4 0 own_4, (none_works at_5 0 own_5, (none_works at_6 0 own_6, (none_works at_7 0 own_7, (none_works at_8 0 own_8, (none_works at_9 0 own_9, (none_works at_10 0 own_10, (none_works at_11 0 own_11, (none_works at_12 0 own_12, (none_works at_13 0 own_13, tt))))))))))))),
+  own_works at_0 own_0 (works_as at_0 Fresh fresh_state refl refl (λ handler is. cc) no_thread),
+  (own_works at_1 own_1 (works_as at_1 (Exiting 0 0 0) exit_state refl refl (λ handler is. cc) still_no_thread), (none_works at_2 0 own_2, (none_works at_3 0 own_3, (none_works at_4 0 own_4, (none_works at_5 0 own_5, (none_works at_6 0 own_6, (none_works at_7 0 own_7, (none_works at_8 0 own_8, (none_works at_9 0 own_9, (none_works at_10 0 own_10, (none_works at_11 0 own_11, (none_works at_12 0 own_12, (none_works at_13 0 own_13, tt))))))))))))),
 )
 
 by_computing : (k : KernelState) → Acts k 0 4 → computes (deed k 4) ≡ true → k.delegations.list ≡ ranges_there → IsAdmitted k tenant_domain tenant_objects 0

@@ -1,4 +1,4 @@
-mod Reflecting
+pub mod Reflecting
 mod Finding
 mod Lineages
 mod Quiet
@@ -12,3 +12,4 @@ mod Numbered
 mod Telling
 mod Deriving
 mod Working
+mod Widened

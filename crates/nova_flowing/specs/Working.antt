@@ -1,5 +1,5 @@
 -- Until which turn of a run a side is at work, by the law: it creates nothing, gives nothing while one of it is amid a revoke, and revokes only where it may.
-use Rattle.std.specs.Prelude.{◌≡◌, ℕ, ◌+◌, ◌&&◌, Bool, true, false, not, List, ◌∷◌, ◌++◌, find, length, Option, Some, None, Result, Ok}
+use Rattle.std.specs.Prelude.{◌≡◌, ℕ, ◌+◌, ◌&&◌, ◌||◌, nat_le, Bool, true, false, not, List, ◌∷◌, ◌++◌, find, length, Option, Some, None, Result, Ok}
 use Rattle.std.specs.Option.{option_or}
 use Rattle.nova_calls.specs.Hypercalls.{call_of}
 use Rattle.nova_calls.specs.declared.call.Call.{Call}
@@ -19,10 +19,9 @@ use Rattle.nova_flowing.specs.declared.lapse.LapseKind.TheVariants.{Creates, Giv
 use Rattle.nova_flowing.specs.declared.lapse.Work.{Work}
 use Rattle.nova_flowing.specs.declared.leak.Leak.{Leak}
 
--- what a context does in this state, and asks for by this call: it creates, gives or revokes
+-- what a context does in this state, and asks for by this call: it creates, gives items or a first range, or revokes
 abbrev pub kind_in : State → Option LapseKind
-kind_in (Granting (Some new)) = Some Creates
-kind_in (Granting None) = Some Gives
+kind_in (Granting new) = Some Gives
 kind_in Replying = Some Gives
 kind_in (Revoking range own) = Some Revokes
 kind_in other = None
@@ -38,6 +37,10 @@ kind_of other = None
 
 abbrev pub kind_at : KernelState → ℕ → Option LapseKind
 kind_at k ec = option_or (kind_in (context k ec).state) (kind_of (call_of (context k ec).regs))
+
+-- these numbers, and all that no object has yet: a side's domains or objects, with those that it may make
+abbrev pub widened : KernelState → (ℕ → Bool) → ℕ → Bool
+widened k S n = S n || nat_le (length k.objects) n
 
 -- what `AreAtWork` asks of one turn of a side that makes nothing, and revokes only where the first says that it may
 abbrev pub IsWorking : Bool → (ℕ → Bool) → KernelState → ℕ → Type 0

@@ -3,9 +3,9 @@ use crate::leak::Leak;
 /// What an execution context does in a turn that may be none of `AreAtWork`.
 #[derive(Clone, Copy)]
 pub enum LapseKind {
-    /// It makes an object, or gives a new domain its first range.
+    /// It makes an object.
     Creates,
-    /// It gives items, or takes those of a call, while one of the side is amid a revoke.
+    /// It gives items or a first range, or takes the items of a call, while one of the side is amid a revoke.
     Gives,
     /// It revokes, where the side may not.
     Revokes,

@@ -4,22 +4,30 @@ ghost use Rattle.nova_model.specs.Boot.{Scenario, boot};
 ghost use Rattle.nova_model.specs.Runs.{run};
 ghost use Rattle.nova_model.specs.State.{KernelState};
 ghost use Rattle.law_integrity.specs.Confined.{Of};
-ghost use Rattle.law_flow.specs.Flow.{AreAtWork, DerivesWithin, IsPartitioned, fixed};
-ghost use Rattle.law_flow.specs.Processors.{AreAlikeAtHome, IsDivided};
+ghost use Rattle.law_flow.specs.Flow.{Allowed, AreAtWork, DerivesWithin, IsPartitioned, fixed};
+ghost use Rattle.law_flow.specs.Processors.{AreAlikeAtHome, IsDivided, StayOn};
 ghost use Rattle.nova_flowing.specs.Deriving.{IsDerivingTold, first_made};
-ghost use Rattle.nova_flowing.specs.Working.{IsWorkEnd, IsWorkTold, first_lapse, work_by};
+ghost use Rattle.nova_flowing.specs.Working.{IsWorkEnd, IsWorkTold, first_lapse, widened, work_by};
 ghost use Rattle.nova_flowing.specs.declared.lapse.Lapse.{Lapse};
 
 /// A side of which the premises hold at a place of a run, at work in some turns from there on, comes to the same by all turns from there with the
 /// same turns of its processors in the same order. So do all its deeds and events. If it revokes, nothing that others hold at the place was made of what it holds. `decide` answers `Own` of such a place, and
-/// `first_made` whether it may revoke.
+/// `first_made` whether it may revoke. A side that creates, too, comes to the same with all that it makes, if its execution contexts stay on its
+/// processors.
 pub fn what_is_own_depends_on_its_own_processors_alone()
-    ensures { (revokes : Bool) (scenario : Scenario) (before turns others : List ℕ) (S T P C : ℕ → Bool)
+    ensures working { (revokes : Bool) (scenario : Scenario) (before turns others : List ℕ) (S T P C : ℕ → Bool)
         → IsPartitioned (run (boot scenario) before) (Of S) (Of T) (Of P) → IsDivided (run (boot scenario) before) (Of S) (Of T) (Of P) (Of C)
         → (revokes ≡ true → DerivesWithin (run (boot scenario) before) (Of S))
         → AreAtWork (fixed revokes) S (run (boot scenario) before) turns
         → filter C turns ≡ filter C others
         → AreAlikeAtHome (run (boot scenario) before) (run (boot scenario) before) turns others S P C }
+    ensures creating { (allowed : Allowed) (scenario : Scenario) (before turns others : List ℕ) (S T P C : ℕ → Bool)
+        → IsPartitioned (run (boot scenario) before) (Of S) (Of T) (Of P) → IsDivided (run (boot scenario) before) (Of S) (Of T) (Of P) (Of C)
+        → (allowed.revokes ≡ true → DerivesWithin (run (boot scenario) before) (Of S))
+        → StayOn (widened (run (boot scenario) before) S) C (run (boot scenario) before) turns
+        → AreAtWork allowed (widened (run (boot scenario) before) S) (run (boot scenario) before) turns
+        → filter C turns ≡ filter C others
+        → AreAlikeAtHome (run (boot scenario) before) (run (boot scenario) before) turns others (widened (run (boot scenario) before) S) (widened (run (boot scenario) before) P) C }
 {
     law_flow::noninterference_on_divided_processors();
 }

@@ -8,7 +8,6 @@ use Rattle.nova_range.specs.declared.status.Status.{Status}
 use Rattle.nova_model.specs.Edges.{is_giving}
 use Rattle.nova_model.specs.declared.context.State.{State}
 use Rattle.nova_model.specs.declared.context.State.TheVariants.{Granting, Replying, Revoking}
-use Rattle.law_turns.specs.Giving.{gives_no_first}
 use Rattle.law_turns.specs.Revoking.{is_revoking}
 use Rattle.law_flow.specs.Flow.{IsCallAtWork}
 use Rattle.nova_flowing.specs.Working.{kind_in, kind_of}
@@ -19,15 +18,8 @@ pub none_is : (kind : LapseKind) → ◌≡◌ {A = Option LapseKind} None (Some
 none_is kind is = absurd (cc)
 
 -- what each state is of
-pub state_calm : (s : State) → kind_in s ≡ None → gives_no_first s ≡ true
-state_calm (Granting (Some new)) is = absurd (cc)
-state_calm (Granting None) is = absurd (cc)
-state_calm Replying is = absurd (cc)
-state_calm other is = refl
-
 pub state_gives : (s : State) → kind_in s ≡ None → is_giving s ≡ true → ⊥
-state_gives (Granting (Some new)) is gives = absurd (cc)
-state_gives (Granting None) is gives = absurd (cc)
+state_gives (Granting new) is gives = absurd (cc)
 state_gives Replying is gives = absurd (cc)
 state_gives other is gives = absurd (cc)
 
@@ -37,34 +29,31 @@ state_revokes other is revokes = absurd (cc)
 
 -- one that gives
 pub record IsGift (s : State) : Type 0 where
-  pub calm : gives_no_first s ≡ true
   pub gives : is_giving s ≡ true
   pub stays : is_revoking s ≡ true → ⊥
 
 pub gift_state : (s : State) → kind_in s ≡ Some Gives → IsGift s
-gift_state (Granting (Some new)) is = absurd (cc)
-gift_state (Granting None) is = record { calm = refl; gives = refl; stays = λ none. absurd (cc) }
-gift_state Replying is = record { calm = refl; gives = refl; stays = λ none. absurd (cc) }
+gift_state (Granting new) is = record { gives = refl; stays = λ none. absurd (cc) }
+gift_state Replying is = record { gives = refl; stays = λ none. absurd (cc) }
 gift_state other is = absurd (cc)
 
 -- one that revokes
 pub record IsRevoke (s : State) : Type 0 where
-  pub calm : gives_no_first s ≡ true
   pub keeps : is_giving s ≡ true → ⊥
   pub revokes : is_revoking s ≡ true
 
 pub revoke_state : (s : State) → kind_in s ≡ Some Revokes → IsRevoke s
-revoke_state (Revoking range own) is = record { calm = refl; keeps = λ none. absurd (cc); revokes = refl }
-revoke_state (Granting (Some new)) is = absurd (cc)
-revoke_state (Granting None) is = absurd (cc)
+revoke_state (Revoking range own) is = record { keeps = λ none. absurd (cc); revokes = refl }
+revoke_state (Granting new) is = absurd (cc)
 revoke_state Replying is = absurd (cc)
 revoke_state other is = absurd (cc)
 
--- one that gives a first range
-pub first_state : (s : State) → kind_in s ≡ Some Creates → gives_no_first s ≡ true → ⊥
-first_state (Granting (Some new)) is calm = absurd (cc)
-first_state (Granting None) is calm = absurd (cc)
-first_state other is calm = absurd (cc)
+-- it is a call that creates
+pub no_birth : (s : State) → kind_in s ≡ Some Creates → ⊥
+no_birth (Granting new) is = absurd (cc)
+no_birth Replying is = absurd (cc)
+no_birth (Revoking range own) is = absurd (cc)
+no_birth other is = absurd (cc)
 
 pub call_works : (revoking : Type 0) (r : Result Call Status) → kind_of r ≡ None → IsCallAtWork (Unit {0}) revoking (false ≡ true) r
 call_works revoking (Ok (CreatePd target pd first)) is = absurd (cc)
@@ -80,8 +69,7 @@ never : false ≡ true → ⊥
 never is = absurd (cc)
 
 pub call_creates : (revoking : Type 0) (r : Result Call Status) → kind_of r ≡ Some Creates → IsCallAtWork (Unit {0}) revoking (false ≡ true) r → ⊥
-call_creates revoking (Ok (CreatePd target pd None)) is works = never works
-call_creates revoking (Ok (CreatePd target pd (Some first))) is works = works
+call_creates revoking (Ok (CreatePd target pd first)) is works = never works
 call_creates revoking (Ok (CreateEc target pd cpu its sp event)) is works = never works
 call_creates revoking (Ok (CreateSc target pd whose quantum priority)) is works = never works
 call_creates revoking (Ok (CreatePt target pd handler mtd ip)) is works = never works

@@ -25,6 +25,7 @@ use Rattle.nova_flowing.specs.Working.{is_of_side, is_revoke, kind_in, kind_of}
 use Rattle.nova_flowing.specs.declared.lapse.Lapse.{Lapse}
 use Rattle.nova_flowing.specs.declared.lapse.LapseKind.{LapseKind}
 use Rattle.nova_flowing.specs.declared.lapse.LapseKind.TheVariants.{Gives}
+use Rattle.nova_flowing.proofs.Reflecting.{first_none, none_left, none_right}
 use Rattle.nova_watching.specs.Worked.{first_gift, gift_at, gift_beside, gift_by, of_side, side_gift}
 use Rattle.nova_watching.specs.declared.work.Doer.{Doer}
 use Rattle.nova_watching.proofs.Calling.{not_both}
@@ -32,19 +33,7 @@ use Rattle.nova_watching.proofs.Doings.{none_is}
 
 -- THE FIRST OF SOME
 
-pub none_left : {T : Type 0} (a b : Option T) → option_or a b ≡ None → a ≡ None
-none_left None b is = refl
-none_left (Some x) b is = absurd (cc)
-
-none_right : {T : Type 0} (a b : Option T) → option_or a b ≡ None → b ≡ None
-none_right None b is = is
-none_right (Some x) b is = absurd (cc)
-
 module _ {X Y : Type 0} (f : X → Option Y) where
-  first_none : (xs : List X) → first_some f xs ≡ None → AllByRecursion (λ (x : X). f x ≡ None) xs
-  first_none [] is = tt
-  first_none (x ∷ xs) is = (none_left (f x) (first_some f xs) is, first_none xs (none_right (f x) (first_some f xs) is))
-
   some_found : (xs : List X) (y : Y) → first_some f xs ≡ Some y → (x : X) × (f x ≡ Some y)
   some_found [] y is = absurd (cc)
   some_found (x ∷ xs) y is = by_first (λ h. some_found xs y h) (f x) refl is

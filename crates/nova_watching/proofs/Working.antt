@@ -16,7 +16,6 @@ use Rattle.nova_model.specs.declared.context.EcState.{EcState}
 use Rattle.nova_model.specs.declared.event.Turn.{Turn}
 use Rattle.nova_model.specs.declared.times.Due.{Due}
 use Rattle.law_integrity.specs.Rights.{Again, AtCall, IsAsking}
-use Rattle.law_turns.specs.Giving.{gives_no_first}
 use Rattle.law_turns.specs.Revoking.{is_revoking}
 use Rattle.law_integrity.specs.Confined.{Of}
 use Rattle.law_turns.specs.Tables.{HasTables}
@@ -29,7 +28,7 @@ use Rattle.nova_watching.specs.Worked.{IsLapse, IsTurnTold, asks_in, doer_at, do
 use Rattle.nova_watching.specs.declared.work.Doer.{Doer}
 use Rattle.nova_watching.proofs.Calling.{asking_from, from_asking, not_both}
 use Rattle.nova_watching.proofs.Gifts.{doer_with, gift_is, idle_asks, none_amid}
-use Rattle.nova_watching.proofs.Doings.{call_creates, call_revokes, call_works, first_state, gift_state, no_gift, revoke_state, revokes_call, state_calm, state_gives, state_revokes}
+use Rattle.nova_watching.proofs.Doings.{call_creates, call_revokes, call_works, gift_state, no_birth, no_gift, revoke_state, revokes_call, state_gives, state_revokes}
 
 module _ (revokes : Bool) (S : ℕ → Bool) (k : KernelState) (cpu n : ℕ) where
   -- nobody acts
@@ -57,7 +56,6 @@ module _ (revokes : Bool) (S : ℕ → Bool) (k : KernelState) (cpu n : ℕ) whe
     -- it is at work
     calm_works : kind_in (context k c.actor).state ≡ None → (IsAsking k c.actor → IsCallAtWork (Unit {0}) (revokes ≡ true) (false ≡ true) (call_of (context k c.actor).regs)) → IsWorking revokes S k c.actor
     calm_works none calls = record {
-      state = state_calm (context k c.actor).state none;
       calls = calls;
       gives = λ is. absurd (state_gives (context k c.actor).state none is);
       revokes = λ is. absurd (state_revokes (context k c.actor).state none is);
@@ -66,12 +64,12 @@ module _ (revokes : Bool) (S : ℕ → Bool) (k : KernelState) (cpu n : ℕ) whe
     gift_works : kind_in (context k c.actor).state ≡ Some Gives → RevokesNothing k (Of S) → IsWorking revokes S k c.actor
     gift_works is none =
         let g = gift_state (context k c.actor).state is in
-        record { state = g.calm; calls = λ asking. absurd (idle_asks k c.actor Gives is asking); gives = λ gives. none; revokes = λ amid. absurd (g.stays amid) }
+        record { calls = λ asking. absurd (idle_asks k c.actor Gives is asking); gives = λ gives. none; revokes = λ amid. absurd (g.stays amid) }
 
     revoke_works : kind_in (context k c.actor).state ≡ Some Revokes → revokes ≡ true → IsWorking revokes S k c.actor
     revoke_works is may =
         let g = revoke_state (context k c.actor).state is in
-        record { state = g.calm; calls = λ asking. absurd (idle_asks k c.actor Revokes is asking); gives = λ gives. absurd (g.keeps gives); revokes = λ amid. may }
+        record { calls = λ asking. absurd (idle_asks k c.actor Revokes is asking); gives = λ gives. absurd (g.keeps gives); revokes = λ amid. may }
 
     -- or it lapses
     lapse_of : (l : Lapse) → l.ec ≡ c.actor → l.pd ≡ pd_of k c.actor → S l.pd ≡ true → (IsWorking revokes S k c.actor → ⊥) → kind_at k c.actor ≡ Some l.kind → l.turn ≡ n + 1 → IsLapse revokes S k cpu n l
@@ -165,8 +163,7 @@ module _ (revokes : Bool) (S : ℕ → Bool) (k : KernelState) (cpu n : ℕ) whe
 
         by_state : (state : Option LapseKind) → kind_in (context k c.actor).state ≡ state → IsTurnTold revokes S k cpu n
             (option_or (gift_in revokes S k n here state) (of_side revokes S (lapse_by n here (option_or state (lapse_in (kind_of (call_of (context k c.actor).regs)) (asks_in (context k c.actor).state (sign_of (deed k c.actor)).0))))))
-        by_state (Some Creates) one =
-            alone_told Creates (by_state_kind Creates one) (λ counts works. first_state (context k c.actor).state one works.state) (λ off. absurd (counts_always revokes off))
+        by_state (Some Creates) one = absurd (no_birth (context k c.actor).state one)
         by_state (Some Gives) one = subst (IsTurnTold revokes S k cpu n) (sym (no_more (first_gift revokes S k n here))) (gifts_told one tables (first_gift revokes S k n here) refl)
           where
             no_more : (o : Option Lapse) → option_or o None ≡ o
@@ -180,7 +177,6 @@ module _ (revokes : Bool) (S : ℕ → Bool) (k : KernelState) (cpu n : ℕ) whe
   -- a number without an execution context does nothing
   nobody_works : (ec : ℕ) → context_at k ec ≡ None → IsWorking revokes S k ec
   nobody_works ec none = record {
-    state = ap (λ (o : Option EcState). gives_no_first (context_in o).state) none;
     calls = λ asking. absurd (by_asking asking);
     gives = λ gives. absurd (let both = sym (ap (λ (o : Option EcState). is_giving (context_in o).state) none) ∙ gives in cc);
     revokes = λ amid. absurd (let both = sym (ap (λ (o : Option EcState). is_revoking (context_in o).state) none) ∙ amid in cc);

@@ -33,8 +33,7 @@ fn kind_in(state: State) -> Option<LapseKind>
     ensures { result ≡ kind_in state }
 {
     match state {
-        State::Granting(Some(_)) => Some(LapseKind::Creates),
-        State::Granting(None) | State::Replying => Some(LapseKind::Gives),
+        State::Granting(_) | State::Replying => Some(LapseKind::Gives),
         State::Revoking(..) => Some(LapseKind::Revokes),
         _ => None,
     }

@@ -117,10 +117,12 @@ class Premises(unittest.TestCase):
         self.assertEqual(at_work([*revokes[:2], gives, revokes[2]], Allowed(revokes=True)), {"IsAtWork.gives"})
         self.assertEqual(at_work([["1", "22", "answer", "6", "8"]], Allowed(revokes=True)), {"IsAtWork.calls"})
 
-    def test_a_side_that_creates_gives_no_first_range_and_has_no_deadline(self) -> None:
-        alone = Allowed(creates=True)
+    def test_a_side_that_creates_gives_first_ranges_and_has_no_deadline(self) -> None:
+        alone, opens = Allowed(creates=True), ["1", "22", "begin", "2", "31"]
         self.assertEqual(at_work([["1", "22", "answer", number, "0"] for number in "23456"], alone), set())
-        for event in (["begin", "2", "31"], ["answer", "12", "1"], ["late", "8", "1"]):
+        self.assertEqual([at_work([opens], alone), at_work([opens])], [set(), {"IsAtWork.calls"}])
+        self.assertEqual(at_work([["1", "18", "begin", "7", "256"], opens, ["1", "22", "made", "52", "33"]], Allowed(True, True)), {"IsAtWork.gives"})
+        for event in (["answer", "12", "1"], ["late", "8", "1"]):
             self.assertEqual(at_work([["1", "22", *event]], alone), {"IsAtWork.calls"})
 
     def test_what_others_made_of_the_sides_ranges_is_found(self) -> None:

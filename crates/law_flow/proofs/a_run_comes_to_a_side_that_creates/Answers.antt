@@ -1,4 +1,4 @@
-use Rattle.law_flow.proofs.Founding.{founds, founds_alone, founds_both, founds_divided, founds_nothing, founds_on, founds_partitioned, founds_revoking, founds_timeless, founds_works}
+use Rattle.law_flow.proofs.Founding.{founds, founds_alone, founds_both, founds_divided, founds_gives, founds_nothing, founds_on, founds_partitioned, founds_revoking, founds_timeless, founds_works}
 use Rattle.law_flow.proofs.a_run_comes_to_a_side_that_creates.Goals as goal
 
 pub returns-clause-partitioned : goal.returns-clause-partitioned
@@ -27,6 +27,9 @@ returns-clause-works c = founds_works
 
 pub returns-clause-makes : goal.returns-clause-makes
 returns-clause-makes c = founds
+
+pub returns-clause-gives : goal.returns-clause-gives
+returns-clause-gives c = founds_gives
 
 pub returns-clause-more : goal.returns-clause-more
 returns-clause-more c = founds_both
