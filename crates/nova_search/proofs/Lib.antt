@@ -4,9 +4,11 @@ pub mod Growth
 pub mod Nearest
 pub mod Open
 pub mod Drawn
-pub mod Reducing
+pub mod Covering
+pub mod Stable
 pub mod Ones
 pub mod Links
 pub mod Own
 pub mod Going
 pub mod Retaken
+pub mod Alone

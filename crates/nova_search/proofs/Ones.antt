@@ -11,7 +11,7 @@ use Rattle.nova_search.specs.declared.merging.Merging.{Merging}
 use Rattle.nova_search.specs.declared.merging.Merging.TheVariants.{Alike, Same}
 use Rattle.nova_search.specs.Merged.{IsApt, IsOne, StaysOne}
 use Rattle.nova_search.specs.Reductions.{IsStill}
-use Rattle.nova_search.proofs.Reducing.{idle_still}
+use Rattle.nova_search.proofs.Covering.{idle_still}
 
 pub one_itself : ((k : KernelState) → IsAlike k k) → (m : Merging) (s : KernelState) → IsOne m s s
 one_itself alike Same s = refl

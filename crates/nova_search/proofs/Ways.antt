@@ -8,7 +8,7 @@ use Rattle.nova_compare.specs.Steps.{IsSuccessor}
 use Rattle.std.proofs.lemmas.List.{take_more}
 use Rattle.nova_search.specs.Searches.{AreProcessors, IsAlong, IsReached, IsWay}
 
-run_more : (k : KernelState) (order : List ℕ) (cpu : ℕ) → run k (order ++ cpu ∷ []) ≡ after (run k order) cpu
+pub run_more : (k : KernelState) (order : List ℕ) (cpu : ℕ) → run k (order ++ cpu ∷ []) ≡ after (run k order) cpu
 run_more k [] cpu = refl
 run_more k (c ∷ order) cpu = run_more (after k c) order cpu
 
@@ -16,7 +16,7 @@ free_more : (k : KernelState) (order : List ℕ) (cpu : ℕ) → IsFreeOfIdle k 
 free_more k [] cpu free there = (there, tt)
 free_more k (c ∷ order) cpu free there = (free.0, free_more (after k c) order cpu free.1 there)
 
-processors_more : (n : ℕ) (order : List ℕ) (cpu : ℕ) → AreProcessors n order → cpu < n → AreProcessors n (order ++ cpu ∷ [])
+pub processors_more : (n : ℕ) (order : List ℕ) (cpu : ℕ) → AreProcessors n order → cpu < n → AreProcessors n (order ++ cpu ∷ [])
 processors_more n [] cpu are is = (is, tt)
 processors_more n (c ∷ order) cpu are is = (are.0, processors_more n order cpu are.1 is)
 

@@ -75,3 +75,7 @@ pub record IsCovered (T : Type 0) (touched : KernelState → ℕ → T → Type 
 -- no processor has a turn to take
 abbrev pub IsStill : ℕ → KernelState → Type 0
 IsStill n s = (q : ℕ) → q < n → after s q ≡ s
+
+-- a property of states that no turn undoes, after any order from `k`
+pub record IsStable (property : KernelState → Bool) (k : KernelState) : Type 0 where
+  pub stays : (order : List ℕ) (cpu : ℕ) → AreProcessors k.cpus order → cpu < k.cpus → property (run k order) ≡ true → property (after (run k order) cpu) ≡ true

@@ -29,9 +29,9 @@ pub(crate) fn found_after(vertex: &Vertex, from: usize, cpu: u32) -> Found
     }
 }
 
-/// Enters a state that was found after a turn of a processor in the state at a place, unless one that is one with it is there, and answers the place. States
-/// behind `from` are open.
-fn enter(
+/// Enters a state that was found after a turn of a processor in the state at a place, unless one that is one with it is there, and answers the place: one
+/// behind all others where it was entered. States behind `from` are open.
+pub(crate) fn enter(
     opening: &Vertex,
     merging: Merging,
     found: &mut Vec<Found>,
@@ -47,6 +47,7 @@ fn enter(
     ensures more { OnOk result (IsMore found.old.items from cpu vertex found.new.items) }
     ensures frontier { OnOk result (AreOpen (states_of found.new.items) (from + 1) frontier.new) }
     ensures there { IfOk result (λ place. IsOneAt merging (states_of found.new.items) place vertex) }
+    ensures known { IfOk result (λ place. place < length found.old.items → found.new.items ≡ found.old.items) }
 {
     states_are_one();
     let hash = hash_of(&vertex, merging);

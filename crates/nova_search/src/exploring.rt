@@ -64,7 +64,7 @@ fn stays_whole(merging: Merging, is_whole: bool, vertex: &Vertex) -> bool
 }
 
 /// Enters the state in which a search begins.
-fn begin(
+pub(crate) fn begin(
     opening: &Vertex,
     merging: Merging,
     found: &mut Vec<Found>,

@@ -96,7 +96,7 @@ impl Frontier {
         ensures { OnOk result (self.new ≡ self.old ++ vertex ∷ []) }
     {
         self.vertices.push_back(vertex)?;
-        self.index.add(hash)?;
+        self.index.add(self.alloc, hash)?;
         Ok(())
     }
 

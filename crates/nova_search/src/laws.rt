@@ -5,7 +5,7 @@ ghost use Rattle.nova_model.specs.Runs.{run};
 ghost use Rattle.nova_search.specs.Merged.{HasOne, IsApt, IsOne};
 ghost use Rattle.nova_search.specs.Searches.{AreAllWithin, AreProcessors};
 ghost use Rattle.nova_search.specs.declared.merging.Merging.{Merging};
-ghost use Rattle.nova_search.specs.Reductions.{IsCovered, IsReduction, IsStill, Swaps};
+ghost use Rattle.nova_search.specs.Reductions.{IsCovered, IsReduction, IsStable, IsStill, Swaps};
 
 use crate::merging::states_are_one;
 use crate::notes::Notes;
@@ -41,4 +41,28 @@ pub fn quiet_ends_are_found<N: Notes>()
 {
     states_are_one();
     law_turns::quiet_is_every_processor_idle();
+}
+
+/// A stable property, which no turn undoes, holds after no order where it holds in no state that a reduced search found, if it holds of states that are one
+/// alike.
+pub fn stable_properties_are_found<N: Notes>()
+    ensures { (noted lone : ℕ → N.Touch → Bool) (m : Merging) (property : KernelState → Bool) (k : KernelState) (states : List KernelState) → IsApt k
+        → Swaps N.Touch N.touched N.apart m → IsReduction N.Touch N.touched N.apart noted lone m k states → IsStable property k
+        → ((s t : KernelState) → IsOne m s t → property s ≡ property t)
+        → ((s : KernelState) → Contains states s → property s ≡ false)
+        → (order : List ℕ) → AreProcessors k.cpus order → property (run k order) ≡ false }
+{
+    reduced_searches_are_complete::<N>();
+}
+
+/// What no turn does unless its touch shows it, as a store to a frame, is done by no turn of any order, where nothing that a reduced search noted of the
+/// processor shows it.
+pub fn what_no_note_shows_is_never_done<N: Notes>()
+    ensures { (noted lone : ℕ → N.Touch → Bool) (m : Merging) (does : KernelState → ℕ → Bool) (shows : ℕ → N.Touch → Bool) (k : KernelState)
+        (states : List KernelState) → IsApt k → Swaps N.Touch N.touched N.apart m → IsReduction N.Touch N.touched N.apart noted lone m k states
+        → ((s : KernelState) (cpu : ℕ) (t : N.Touch) → N.touched s cpu t → does s cpu ≡ true → shows cpu t ≡ true)
+        → ((cpu : ℕ) (t : N.Touch) → cpu < k.cpus → noted cpu t ≡ true → shows cpu t ≡ false)
+        → (order : List ℕ) (cpu : ℕ) → AreProcessors k.cpus order → cpu < k.cpus → does (run k order) cpu ≡ false }
+{
+    reduced_searches_are_complete::<N>();
 }

@@ -1,6 +1,6 @@
 use Rattle.nova_model.specs.Runs.{run}
 use Rattle.law_turns.proofs.Processors.{run_cpus}
-use Rattle.nova_search.proofs.Reducing.{idle_still, still_found}
+use Rattle.nova_search.proofs.Covering.{idle_still, still_found}
 use Rattle.nova_search.proofs.laws.quiet_ends_are_found.Goals as goal
 
 pub returns : goal.returns

@@ -1,4 +1,4 @@
-use Rattle.nova_search.proofs.Reducing.{all_covered, still_found}
+use Rattle.nova_search.proofs.Covering.{all_covered, still_found}
 use Rattle.nova_search.proofs.laws.reduced_searches_are_complete.Goals as goal
 
 pub returns-clause-covered : goal.returns-clause-covered

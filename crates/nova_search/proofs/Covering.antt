@@ -36,7 +36,7 @@ first_of p (q ∷ order) = by_test (p == q) refl (first_of p order)
       without = ((λ (same : p ≡ q). grind (arith, is, same)), found.without);
     })
 
-run_through : (s : KernelState) (before rest : List ℕ) → run s (before ++ rest) ≡ run (run s before) rest
+pub run_through : (s : KernelState) (before rest : List ℕ) → run s (before ++ rest) ≡ run (run s before) rest
 run_through s [] rest = refl
 run_through s (q ∷ before) rest = run_through (after s q) before rest
 
@@ -80,7 +80,7 @@ module _ (T : Type 0) (touched : KernelState → ℕ → T → Type 0) (noted : 
   notes_before s [] rest notes = tt
   notes_before s (q ∷ before) rest notes = (notes.0, notes_before (after s q) before rest notes.1)
 
-  notes_after : (s : KernelState) (before rest : List ℕ) → Noted s (before ++ rest) → Noted (run s before) rest
+  pub notes_after : (s : KernelState) (before rest : List ℕ) → Noted s (before ++ rest) → Noted (run s before) rest
   notes_after s [] rest notes = notes
   notes_after s (q ∷ before) rest notes = notes_after (after s q) before rest notes.1
 

@@ -1,0 +1,4 @@
+pub mod Whom
+pub mod Looking
+pub mod Marks
+pub mod Touching
