@@ -1,3 +1,5 @@
+ghost use Rattle.std.specs.Prelude.{◌≤◌};
+
 use std::sync::atomic::{AtomicU64, Ordering};
 use std::{hint, thread};
 
@@ -72,7 +74,10 @@ impl Crew {
     /// How many instructions a burst has, at most `most`, where there may be `left` turns more: its worker's share of those that aren't promised to
     /// bursts that run, or few, so that the last bursts of all workers can be committed. They are promised to it. More than there was room for would
     /// be run in vain.
-    pub(crate) fn promise(&self, left: u64, most: u64) -> u64 {
+    pub(crate) fn promise(&self, left: u64, most: u64) -> u64
+        ensures left { result ≤ left }
+        ensures most { result ≤ most }
+    {
         let free = left.saturating_sub(self.promised.load(Ordering::SeqCst));
         let share = free / self.workers.max(1);
         let promised = share.max(LEAST_SHARE).min(left).min(most);
