@@ -15,7 +15,7 @@ enum { SLOTS = 2, PUTS = 3, LOOKS = 2 };
 /* Selectors. CONSUMER is followed by the thread's scheduling context, EVENTS by the portals of its exits. */
 enum { STARTER = 34, CONSUMER = 36, EVENTS = 48 };
 
-/* Nobody uses up a quantum of so many turns: where one ends there are more states. */
+/* Nobody uses up a quantum of so many turns. */
 enum { QUANTUM = 1000 };
 
 static volatile unsigned slots[SLOTS], head, tail, taken;

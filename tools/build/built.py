@@ -148,7 +148,7 @@ def advice(name: str) -> str:
     minutes = plan.minutes_left(there, {}, 1)
     draft = "" if name == "nova" else f" {name.removeprefix('nova_')}"
     build = "python3 tools/build" if name == "nova" else f"python3 tools/build {name}"
-    return f"`{build}` builds it, in some {minutes} minutes on four idle cores; `./nova draft --path{draft}` names an unproved one, within two"
+    return f"`{build}` builds it, in {minutes} to {minutes * 5 // 2} minutes on four idle cores; `./nova draft --path{draft}` builds an unproved one and names it, within two"
 
 
 def there(name: str) -> Path | None:

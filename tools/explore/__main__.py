@@ -13,6 +13,7 @@ all, 1 where an order is found, 7 for cut, 9 for within; or 3 where there is no 
 
 from __future__ import annotations
 
+import os
 import sys
 import tempfile
 from argparse import Namespace
@@ -22,7 +23,7 @@ from pathlib import Path
 
 from answers import Answer
 from answers import Unread as NoAnswer
-from program import Missing, NoSymbol, Parser, Refused, Replayer, Unread, add_words, asked, ended, failures, find, program_file, there, unread
+from program import DRAFTS, TOP, Missing, NoSymbol, Parser, Refused, Replayer, Unread, add_words, asked, ended, failures, find, program_file, there, unread
 from questions import Question, number_of, states_in
 from resolving import LIMITS, Naming, listed, number, question_of
 from telling import Telling
@@ -48,10 +49,11 @@ def parser() -> Parser:
 
 
 def written(answer: Answer, folder: Path) -> list[Path]:
-    """The files that the orders of an answer were written to. Those of an earlier answer are removed."""
+    """The files that the orders of an answer were written to, in place of those of an earlier answer. One without orders leaves these."""
+    if not answer.orders:
+        return []
     named = ["found"] if answer.order is not None else [str(number) for number in range(1, len(answer.orders) + 1)]
-    if answer.orders:
-        folder.mkdir(parents=True, exist_ok=True)
+    folder.mkdir(parents=True, exist_ok=True)
     for old in folder.glob("*.order"):
         if old.stem == "found" or old.stem.isdigit():
             old.unlink()
@@ -69,7 +71,7 @@ def remarks(question: Question, answer: Answer, rounds: Callable[[], str]) -> It
     elif answer.extent == "cut" and ((word in ("dies", "stuck") and given) or (word == "hangs" and len(given) == 2)) and number_of(given[-1]) not in states_in(rounds()):
         yield f"EC {given[-1]} isn't there after a run by rounds"
     if answer.extent == "cut":
-        yield "--states N allows more, which take 40 to 80 KB each; with loops that try less often there are fewer"
+        yield "--states N allows more, of some 60 bytes each, and 60 KB while they wait to be expanded; with loops that try less often there are fewer"
     elif answer.extent.startswith("within"):
         yield "--turns N allows more; where a loop spins, or a source or a deadline is left, no N comes to all"
 
@@ -85,6 +87,13 @@ def programs(given: Namespace) -> tuple[Path, Path]:
     if missing:
         raise Missing("\nexplore: ".join(missing))
     return found[0], found[1]
+
+
+def words_of(nova: Path) -> tuple[str, str]:
+    """How a command begins that runs `nova`, which may be a draft, and the folder of the tools, both as seen from the folder of the caller."""
+    top = Path() if Path("nova").resolve() == TOP / "nova" else Path(os.path.relpath(TOP))
+    script = "./nova" if top == Path() else str(top / "nova")
+    return script + " draft" * nova.is_relative_to(DRAFTS), str(top / "tools")
 
 
 def failed(naming: Naming, report: str) -> Iterator[str]:
@@ -112,7 +121,7 @@ def explore(given: Namespace) -> int:
             raise Refused(f"what is told is not what comes of it: {faults[0]}")
         files = written(answer, given.output or Path(f"{scenario.stem}.orders"))
         report = cache(lambda: replayer.report(scenario, answer.orders[0]))
-        telling = Telling(answer, scenario, clause_of(given.question), files, given.elf)
+        telling = Telling(answer, scenario, clause_of(given.question), files, given.elf, *words_of(nova))
         beside = remarks(question, answer, rounds) if answer.order is None else failed(naming, report())
         for line in telling.lines(lambda: naming.names(report()), list(beside)):
             print(line)

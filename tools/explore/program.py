@@ -14,7 +14,7 @@ sys.path += [str(Path(__file__).resolve().parents[1] / name) for name in ("build
 from answers import ALL, CUT, FOUND, WITHIN, Answer, read_answer  # noqa: E402
 from questions import RESTS, Question, number_of, outcome_in, reported  # noqa: E402
 
-from built import Missing, ended, find, there  # noqa: E402
+from built import DRAFTS, TOP, Missing, ended, find, there  # noqa: E402
 from failures import FAILED, failures, mark_of  # noqa: E402
 from hints import unread  # noqa: E402
 from naming import Names, Unread, add_words, as_text, names_of, selectors  # noqa: E402
@@ -23,8 +23,8 @@ from report import Fault, Report, read_report  # noqa: E402
 from variables import EXECUTE, LOADED, NO_BYTES, PAGE, WORD, Executable, NoSymbol, frame_of, read_executable, variables  # noqa: E402
 
 __all__ = [
-    *("EXECUTE", "FAILED", "LOADED", "NO_BYTES", "PAGE", "WORD", "Executable", "Fault", "Missing", "Names", "NoSymbol", "Parser", "Refused", "Replayer"),
-    *("Report", "Unread", "add_words", "as_text", "asked", "ended", "failures", "find", "frame_of", "mark_of", "names_of", "program_file"),
+    *("DRAFTS", "EXECUTE", "FAILED", "LOADED", "NO_BYTES", "PAGE", "WORD", "Executable", "Fault", "Missing", "Names", "NoSymbol", "Parser", "Refused", "Replayer"),
+    *("Report", "TOP", "Unread", "add_words", "as_text", "asked", "ended", "failures", "find", "frame_of", "mark_of", "names_of", "program_file"),
     *("read_executable", "read_report", "selectors", "there", "unread", "variables"),
 ]
 

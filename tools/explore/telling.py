@@ -87,13 +87,16 @@ def ended_text(answer: Answer, count: int) -> str:
 
 @dataclass(frozen=True, slots=True)
 class Telling:
-    """What is told of an answer: by the scenario, the clause of the question, the files of the orders, and the executables that were given."""
+    """What is told of an answer: by the scenario, the clause of the question, the files of the orders, the executables that were given, and how commands name
+    `nova` and the folder of the tools."""
 
     answer: Answer
     scenario: Path
     clause: str
     files: Sequence[Path]
     executables: Sequence[Path] = ()
+    nova: str = "./nova"
+    tools: str = "tools"
 
     def lines(self, named: Callable[[], Names], beside: Sequence[str] = ()) -> Iterator[str]:
         """The lines: a sentence, with what is to be said beside it, and commands that go on, or the table of outcomes."""
@@ -116,6 +119,6 @@ class Telling:
     def commands(self, order: str) -> Iterator[str]:
         """What tells more of an order: the report in sentences, and where there is an executable, its last turns by lines of the source."""
         words = "".join(f" --elf {file}" for file in self.executables)
-        yield f"  ./nova solo {self.scenario} {self.files[0]} | python3 tools/explain /dev/stdin{words}"
+        yield f"  {self.nova} solo {self.scenario} {self.files[0]} | python3 {self.tools}/explain /dev/stdin{words}"
         if self.executables:
-            yield f"  python3 tools/debug trace {self.scenario} {self.files[0]}{words} --from {max(1, turns_in(order) - LAST)}"
+            yield f"  python3 {self.tools}/debug trace {self.scenario} {self.files[0]}{words} --from {max(1, turns_in(order) - LAST)}"
