@@ -91,7 +91,7 @@ def programs(given: Namespace) -> tuple[Path, Path]:
 
 def words_of(nova: Path) -> tuple[str, str]:
     """How a command begins that runs `nova`, which may be a draft, and the folder of the tools, both as seen from the folder of the caller."""
-    top = Path() if Path("nova").resolve() == TOP / "nova" else Path(os.path.relpath(TOP))
+    top = Path() if Path("tools").resolve() == TOP / "tools" else Path(os.path.relpath(TOP))
     script = "./nova" if top == Path() else str(top / "nova")
     return script + " draft" * nova.is_relative_to(DRAFTS), str(top / "tools")
 

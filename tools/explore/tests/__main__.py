@@ -255,7 +255,7 @@ class Tool(Asking):
             told = subprocess.run(words, cwd=folder, capture_output=True, text=True, check=False)
             self.assertEqual((told.returncode, told.stdout), (3, ""))
             for line, name in zip(told.stderr.splitlines(), ("nova_explore", "nova"), strict=True):
-                self.assertRegex(line, rf"^explore: {name} is not built: `python3 tools/build.*` builds it, in some \d+ minutes .*`./nova draft")
+                self.assertRegex(line, rf"^explore: {name} is not built: `python3 tools/build.*` builds it, in \d+ to \d+ minutes .*`./nova draft")
 
 
 @unittest.skipIf(shutil.which("riscv64-unknown-elf-gcc") is None, "the compiler isn't installed")
